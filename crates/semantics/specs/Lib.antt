@@ -1,0 +1,5 @@
+pub mod Faults
+pub mod Files
+pub mod Quotients
+pub mod Readings
+pub mod Sums

@@ -1,12 +1,12 @@
 -- Laws of numbers in text: what is written of a number is read again.
-use Rattle.std.proofs.Common.{◌≡◌, ◌≢◌, ℕ, suc, ◌^◌, ◌≤◌, ◌<◌, length, get_or, Some, true, false, leb, ltb, ℤ, pos, negsuc, unsigned_abs, refl, ap, ◌∙◌, arith, rules}
+use Rattle.std.proofs.Common.{◌≡◌, ◌≢◌, ℕ, suc, ◌^◌, ◌≤◌, ◌<◌, List, length, get_or, Some, true, false, leb, ltb, ℤ, pos, negsuc, unsigned_abs, refl, ap, ◌∙◌, arith, rules}
 use Rattle.std.specs.Char.{is_ascii_digit}
 use Rattle.std.specs.List.{list_all}
 use Rattle.std.specs.Fmt.{decimal, signed_decimal}
 use Rattle.std.proofs.lemmas.Bool.Decides.{nat_tests}
 use Rattle.std.proofs.lemmas.Int.{ints}
 use Rattle.std.proofs.lemmas.Fmt.{decimal_is_IsNumeral_wide}
-use Rattle.std.proofs.lemmas.Str.Parse.{FoldsDigits, IsDigitsTest, IsNumeralModel, numerals_by_fold, not_in_digits}
+use Rattle.std.proofs.lemmas.Str.Parse.{FoldsDigits, IsDigitsTest, IsNumeralModel, digits_value_short, numerals_by_fold, not_in_digits}
 use Rattle.semantics.specs.Numbers.{are_digits, has_minus, most_magnitude, number_in, number_of, number_on}
 
 all_digits : IsDigitsTest (λ text. list_all is_ascii_digit text ≡ true)
@@ -47,3 +47,7 @@ number_in-signed_decimal (negsuc n) h =
     let small : suc n < 10 ^ 64 = omega (arith, ints) in
     let within : leb (suc n) most_magnitude ≡ true = grind (arith, nat_tests) in
     rw (are_digits-decimal (suc n) small, (decimal_digits (suc n) small).2, within) refl
+
+-- digits spell a number with no more digits
+pub number_of-small : (digits : List ℕ) → list_all is_ascii_digit digits ≡ true → number_of digits < 10 ^ length digits
+number_of-small digits h = digits_value_short numerals digits (length digits) h (omega arith)

@@ -51,11 +51,11 @@ abbrev pub scaled : ℕ → List ℕ → List ℕ → ℕ
 scaled scale whole fraction = nearest (number_of (whole ++ fraction) * 10 ^ scale) (10 ^ length fraction)
 
 -- the greatest magnitude of a reading
-abbrev pub most_reading : ℕ
-most_reading = 1000000000
+abbrev pub greatest_reading : ℕ
+greatest_reading = 1000000000
 
 abbrev pub value_of : Bool → ℕ → Cell
-value_of negative n = if nat_lt most_reading n then TooLarge else Value (with_sign negative n)
+value_of negative n = if nat_lt greatest_reading n then TooLarge else Value (with_sign negative n)
 
 abbrev pub decimal_of : ℕ → Bool → List ℕ → Cell
 decimal_of scale negative text = if is_decimal text then value_of negative (scaled scale (whole_of text) (fraction_of text)) else Bad

@@ -3,7 +3,7 @@
 ghost use Rattle.std.specs.Prelude.{◌≡◌, ◌≤◌, ◌+◌, ◌&&◌, if◌then◌else◌, IsTrue, length, min, nat_le, nat_lt, slice_index};
 ghost use Rattle.std.specs.Char.{is_ascii_digit};
 ghost use Rattle.std.specs.List.{list_all, position_or_len, prefix_len, suffix_len};
-ghost use Rattle.num_text.specs.Cells.{before_blanks, behind_blanks, cell_of, decimal_of, is_blank, is_missing, is_point, most_reading, scaled, value_of, without_sign};
+ghost use Rattle.num_text.specs.Cells.{before_blanks, behind_blanks, cell_of, decimal_of, is_blank, is_missing, is_point, greatest_reading, scaled, value_of, without_sign};
 
 use crate::digits::{are_digits, number_on};
 
@@ -78,7 +78,7 @@ fn point_in(text: &[u8]) -> usize
     text.iter().take_while(|byte| !is_point(**byte)).count()
 }
 
-const MOST_READING: u128 = 1_000_000_000;
+const GREATEST_READING: u128 = 1_000_000_000;
 
 // One where the digit behind so many places rounds up.
 fn carry(fraction: &[u8], places: usize) -> u128
@@ -96,9 +96,9 @@ fn carry(fraction: &[u8], places: usize) -> u128
 fn scaled(scale: u8, whole: &[u8], fraction: &[u8]) -> u128
     requires scale { scale ≤ 6 }
     requires digits { IsTrue (list_all is_ascii_digit fraction.now) }
-    ensures { result ≡ min (scaled scale whole.now fraction.now) (most_reading + 1) }
+    ensures { result ≡ min (scaled scale whole.now fraction.now) (greatest_reading + 1) }
 {
-    let limit = MOST_READING + 1;
+    let limit = GREATEST_READING + 1;
     let places = usize::from(scale);
     let kept = fraction.len().min(places);
     let number = number_on(number_on(0, whole, limit), &fraction[..kept], limit);
@@ -110,7 +110,7 @@ fn scaled(scale: u8, whole: &[u8], fraction: &[u8]) -> u128
 fn value_of(negative: bool, magnitude: u128) -> Cell
     ensures { result ≡ value_of negative magnitude }
 {
-    if magnitude > MOST_READING {
+    if magnitude > GREATEST_READING {
         Cell::TooLarge
     } else if negative {
         Cell::Value(-(magnitude as i32))

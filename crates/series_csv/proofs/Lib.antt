@@ -1,0 +1,4 @@
+pub mod ColumnFacts
+pub mod NearLaws
+pub mod RowFacts
+pub mod TextFacts

@@ -13,3 +13,6 @@ pub use numbers::{read_i128, write_i128};
 /// Want of memory, where it is the only refusal.
 #[derive(Clone, Copy, Debug, PartialEq, Eq)]
 pub struct Memory;
+
+#[cfg(test)]
+mod tests;

@@ -1,4 +1,4 @@
-pub mod ColumnFacts
+pub mod ColumnLaws
 pub mod NearLaws
-pub mod RowFacts
-pub mod TextFacts
+pub mod RowLaws
+pub mod TextLaws

@@ -17,7 +17,7 @@ use std::alloc::Global;
 const MOST_READINGS: u32 = 1_048_576;
 
 // The bytes behind a byte order mark.
-#[tactic(auto, using(crate::proofs::TextFacts::strip_by_bytes))]
+#[tactic(auto, using(crate::proofs::TextLaws::strip_by_bytes))]
 fn without_mark(bytes: &[u8]) -> &[u8]
     ensures { result.now ≡ strip_bom bytes.now }
 {

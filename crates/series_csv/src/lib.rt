@@ -7,3 +7,6 @@ mod rows;
 
 pub use column::read_column;
 pub use fault::CsvErr;
+
+#[cfg(test)]
+mod tests;

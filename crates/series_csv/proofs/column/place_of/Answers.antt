@@ -1,6 +1,6 @@
 use Rattle.std.proofs.Common.{◌∙◌, sym}
 use Rattle.csv.specs.Records.{fields_of}
-use Rattle.series_csv.proofs.TextFacts.{place-here, place-skip, place-past}
+use Rattle.series_csv.proofs.TextLaws.{place-here, place-skip, place-past}
 use Rattle.series_csv.proofs.column.place_of.Goals as goal
 
 pub returns-then-eq : goal.returns-then-eq

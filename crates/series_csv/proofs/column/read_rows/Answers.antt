@@ -5,7 +5,7 @@ use Rattle.std.specs.Result.{is_ok}
 use Rattle.csv.specs.Records.{fields_of}
 use Rattle.series_csv.specs.Column.{readings_from}
 use Rattle.series_csv.specs.Left.{rows_left}
-use Rattle.series_csv.proofs.ColumnFacts.{after, after-row, reading-within}
+use Rattle.series_csv.proofs.ColumnLaws.{after, after-row, reading-within}
 use Rattle.series_csv.proofs.column.read_rows.Goals as goal
 
 pub loop-number-preserved : goal.loop-number-preserved

@@ -1,7 +1,7 @@
 use Rattle.std.proofs.Common.{◌≡◌, ◌≤◌, ◌+◌, length}
 use Rattle.series_csv.specs.Column.{readings_from}
 use Rattle.series_csv.specs.Left.{IsPlain, rows_left}
-use Rattle.series_csv.proofs.ColumnFacts.{after}
+use Rattle.series_csv.proofs.ColumnLaws.{after}
 use Rattle.series_csv.proofs.column.read_rows.Given as goal
 
 abbrev pub invariant-loop-number : goal.invariant-loop-number

@@ -1,7 +1,7 @@
 use Rattle.std.proofs.Common.{◌≡◌, sym, true, rules, ◌∷◌}
 use Rattle.csv.specs.Records.{fields_of}
 use Rattle.series_csv.specs.Left.{rows_left}
-use Rattle.series_csv.proofs.ColumnFacts.{at_column}
+use Rattle.series_csv.proofs.ColumnLaws.{at_column}
 use Rattle.series_csv.proofs.column.read_under_header.Goals as goal
 
 pub returns-clause-ok : goal.returns-clause-ok

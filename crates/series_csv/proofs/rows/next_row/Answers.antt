@@ -1,6 +1,6 @@
 use Rattle.std.proofs.Common.{◌≡◌, true}
 use Rattle.csv.specs.Records.{fields_of}
-use Rattle.series_csv.proofs.RowFacts.{plain-after, row-read}
+use Rattle.series_csv.proofs.RowLaws.{plain-after, row-read}
 use Rattle.series_csv.proofs.rows.next_row.Goals as goal
 
 pub returns-clause-row : goal.returns-clause-row

@@ -1,5 +1,5 @@
 -- The readings so far, and those of the records that are left.
-use Rattle.std.proofs.Common.{◌≡◌, ℕ, suc, ◌+◌, List, [], ◌∷◌, ◌++◌, Option, Some, None, Result, Ok, Err, ℤ, refl, sym, ap, arith, add-one, append_assoc, Bool, true, false, cond, ltb, ◌≤◌}
+use Rattle.std.proofs.Common.{◌≡◌, ℕ, suc, ◌+◌, List, [], ◌∷◌, ◌++◌, Option, Some, Result, Ok, Err, ℤ, refl, sym, ap, arith, add-one, append_assoc, Bool, true, false, cond, ltb, ◌≤◌}
 use Rattle.std.proofs.lemmas.Bool.Decides.{nat_tests}
 use Rattle.csv.specs.Records.{field_at}
 use Rattle.series_csv.specs.Column.{joined, by_field, most_readings, of_records, place_from, reading_of, readings_from}
@@ -11,10 +11,6 @@ abbrev pub after : List ℤ → Result (List ℤ) CsvErr → Result (List ℤ) C
 after xs (Ok ys) = Ok (xs ++ ys)
 after xs (Err e) = Err e
 
-pub after-none : (r : Result (List ℤ) CsvErr) → r ≡ after [] r
-after-none (Ok ys) = refl
-after-none (Err e) = refl
-
 -- one more reading
 pub after-more : (xs : List ℤ) (x : ℤ) (r : Result (List ℤ) CsvErr) → after xs (joined x r) ≡ after (xs ++ x ∷ []) r
 after-more xs x (Ok ys) = ap Ok (sym (append_assoc xs (x ∷ []) ys))
@@ -25,10 +21,6 @@ pub after-row : (xs : List ℤ) (x : ℤ) (place scale k : ℕ) (last : Option �
     → after xs (readings_from place scale k last (row ∷ rows)) ≡ after (xs ++ x ∷ []) (readings_from place scale (k + 1) (Some x) rows)
 after-row xs x place scale k last row rows e = rw (e, add-one) (after-more xs x (readings_from place scale (suc k) (Some x) rows))
 
-pub after-refused : (xs : List ℤ) (e : CsvErr) (place scale k : ℕ) (last : Option ℤ) (row : List (List ℕ)) (rows : List (List (List ℕ)))
-    → reading_of place scale k last row ≡ Err e → after xs (readings_from place scale k last (row ∷ rows)) ≡ Err e
-after-refused xs e place scale k last row rows h = rw h refl
-
 -- a record that has a reading is within the limit
 pub reading-within : (place scale k : ℕ) (last : Option ℤ) (row : List (List ℕ)) (x : ℤ) → reading_of place scale k last row ≡ Ok x → k ≤ most_readings
 reading-within place scale k last row x e = by (ltb most_readings k) refl e
@@ -36,13 +28,6 @@ reading-within place scale k last row x e = by (ltb most_readings k) refl e
     by : (b : Bool) → ltb most_readings k ≡ b → cond b (Err (errors.TooLong k)) (by_field scale k last (field_at row place)) ≡ Ok x → k ≤ most_readings
     by true t e = cc
     by false t e = grind (arith, nat_tests)
-
-pub no_header : (column : List ℕ) (scale : ℕ) (before : Option ℤ) (rows : List (List (List ℕ))) → rows ≡ [] → of_records rows column scale before ≡ Err errors.NoHeader
-no_header column scale before rows e = rw e refl
-
-pub no_column : (column : List ℕ) (scale : ℕ) (before : Option ℤ) (rows more : List (List (List ℕ))) (header : List (List ℕ)) → rows ≡ header ∷ more
-    → place_from 0 header column ≡ None → of_records rows column scale before ≡ Err errors.NoColumn
-no_column column scale before rows more header e p = rw (e, p) refl
 
 pub at_column : (column : List ℕ) (scale : ℕ) (before : Option ℤ) (rows more : List (List (List ℕ))) (header : List (List ℕ)) (place : ℕ) → rows ≡ header ∷ more
     → place_from 0 header column ≡ Some place → of_records rows column scale before ≡ readings_from place scale 1 before more

@@ -2,7 +2,7 @@
 use Rattle.std.proofs.Common.{◌≡◌, ◌≤◌, ◌+◌, ℕ, zero, suc, List, [], ◌∷◌, length, take, ◌-◌, drop, get_or, Some, None, true, false, cond, leb, add-one, refl, sym, ap, ◌∙◌, arith}
 use Rattle.std.specs.Prelude.{◌&&◌, bytes_eq}
 use Rattle.std.proofs.lemmas.Bool.Decides.{nat_tests}
-use Rattle.std.proofs.lemmas.List.{drop_all, take_all}
+use Rattle.std.proofs.lemmas.List.{take_all}
 use Rattle.csv.specs.Reading.{is_bom, strip_bom}
 use Rattle.csv.specs.Records.{field_at}
 use Rattle.series_csv.specs.Column.{place_from}
@@ -44,9 +44,6 @@ place-here i fields column f e same = rw (fields-from i fields f e, same) refl
 
 pub place-past : (i : ℕ) (fields : List (List ℕ)) (column : List ℕ) → field_at fields i ≡ None → place_from i (drop i fields) column ≡ None
 place-past i fields column e = rw (fields-past i fields e) refl
-
-pub place-none : (i : ℕ) (fields : List (List ℕ)) (column : List ℕ) → length fields ≤ i → place_from i (drop i fields) column ≡ None
-place-none i fields column h = rw (drop_all i fields h) refl
 
 -- a text with a mark, behind it
 pub strip_mark : (xs : List ℕ) → 3 ≤ length xs → get_or xs 0 0 ≡ 239 → get_or xs 1 0 ≡ 187 → get_or xs 2 0 ≡ 191 → take (length xs - 3) (drop 3 xs) ≡ strip_bom xs

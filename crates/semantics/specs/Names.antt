@@ -12,15 +12,21 @@ same_name = bytes_eq
 abbrev pub is_word_byte : ℕ → Bool
 is_word_byte c = is_ascii_alphabetic c || is_ascii_digit c || nat_eq c 95
 
+abbrev pub begins_with_letter : List ℕ → Bool
+begins_with_letter [] = false
+begins_with_letter (c ∷ cs) = is_ascii_alphabetic c
+
 -- a letter, and then letters, digits and `_`, at most 32 bytes in all
 abbrev pub is_word : List ℕ → Bool
-is_word [] = false
-is_word (c ∷ cs) = is_ascii_alphabetic c && list_all is_word_byte cs && nat_le (length (c ∷ cs)) 32
+is_word bytes = begins_with_letter bytes && list_all is_word_byte bytes && nat_le (length bytes) 32
 
 -- the words that a query has a use for
 abbrev pub reserved_words : List (List ℕ)
 reserved_words = codes "sum" ∷ codes "varnum" ∷ codes "covnum" ∷ codes "const" ∷ codes "shift" ∷ []
 
+abbrev pub is_reserved : List ℕ → Bool
+is_reserved bytes = list_any (same_name bytes) reserved_words
+
 -- a word that is not reserved
 abbrev pub is_name : List ℕ → Bool
-is_name bytes = is_word bytes && not (list_any (same_name bytes) reserved_words)
+is_name bytes = is_word bytes && not (is_reserved bytes)

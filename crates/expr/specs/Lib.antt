@@ -1,3 +1,4 @@
 pub mod Facts
 pub mod NameFields
+pub mod Refusals
 pub mod Terms

@@ -2,7 +2,7 @@
 
 ghost use Rattle.std.specs.Prelude.{◌≡◌, find};
 ghost use Rattle.std.specs.Option.{option_copied};
-ghost use Rattle.semantics.specs.Admission.{count_at, greatest_at};
+ghost use Rattle.semantics.specs.Admission.{count_at, greatest_at, is_unknown};
 ghost use Rattle.expr.specs.Facts.{facts_of, is_of};
 
 use crate::name::Name;
@@ -33,4 +33,11 @@ pub(crate) fn greatest_at(facts: &[Fact], name: &Name) -> u64
     ensures { result ≡ greatest_at (facts_of facts.now) name.now }
 {
     fact_at(facts, name).map_or(0, |fact| fact.d)
+}
+
+#[tactic(auto, using(crate::proofs::FactLaws::looked_up))]
+pub(crate) fn is_unknown(facts: &[Fact], name: &Name) -> bool
+    ensures { result ≡ is_unknown (facts_of facts.now) name.now }
+{
+    fact_at(facts, name).is_none()
 }

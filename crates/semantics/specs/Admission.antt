@@ -1,5 +1,5 @@
 -- The admission of a plain query over what is known of the series: the first of four rules that refuses it, and why.
-use Rattle.std.specs.Prelude.{ℕ, ◌+◌, ◌*◌, ◌^◌, max, ℤ, unsigned_abs, List, [], ◌∷◌, ◌++◌, Bool, false, true, ◌&&◌, ◌||◌, not, Option, Some, None, is_some, find, nat_lt, int_lt, int_le, if◌then◌else◌}
+use Rattle.std.specs.Prelude.{ℕ, ◌+◌, ◌*◌, ◌^◌, ◌≤◌, max, ℤ, unsigned_abs, List, [], ◌∷◌, ◌++◌, Bool, false, true, ◌&&◌, ◌||◌, not, Option, Some, None, is_some, find, nat_lt, int_lt, int_le, if◌then◌else◌}
 use Rattle.std.specs.Int.{int_max}
 use Rattle.std.specs.Option.{option_map, option_map_or, option_or}
 use Rattle.semantics.specs.Measures.{rank_of, units_of, some_part, is_great_over}
@@ -152,6 +152,16 @@ range_rule facts k q = if is_too_great facts q then Some (too_great k) else None
 abbrev pub first_refusal : {A : Type 0} → (ℕ → A → Option Refusal) → ℕ → List A → Option Refusal
 first_refusal rule k [] = None
 first_refusal rule k (x ∷ xs) = option_or (rule k x) (first_refusal rule (k + 1) xs)
+
+-- each sum of a plain query has a rank of at most 2
+abbrev pub HasLowRanks : QueryTerm → Type 0
+HasLowRanks (number v) = Unit {0}
+HasLowRanks (sum t range) = rank_of t ≤ 2
+HasLowRanks (variance t range) = Unit {0}
+HasLowRanks (covariance t u range) = Unit {0}
+HasLowRanks (add p q) = HasLowRanks p × HasLowRanks q
+HasLowRanks (sub p q) = HasLowRanks p × HasLowRanks q
+HasLowRanks (mul p q) = HasLowRanks p × HasLowRanks q
 
 -- why a plain query is refused, None where it is admitted: the first name that is unknown, else the first sum whose rank is above
 -- 2, else the first sum outside of its domain, else the first node that is too great

@@ -1,5 +1,5 @@
 -- The limits of a query.
-use Rattle.std.specs.Prelude.{ℕ, ◌+◌, ◌*◌, ◌-◌, ◌^◌, ◌≤◌, ◌<◌, max, ℤ, unsigned_abs, Option, Some, None}
+use Rattle.std.specs.Prelude.{ℕ, ◌+◌, ◌*◌, ◌-◌, ◌^◌, ◌≤◌, max, ℤ, unsigned_abs, Option, Some, None}
 use Rattle.semantics.specs.Measures.{names_in}
 use Rattle.semantics.specs.Term.{Term, base, constant, bare, plus, minus, times, shift, Range, QueryTerm, number, sum, variance, covariance, add, sub, mul}
 
@@ -106,11 +106,11 @@ HasSmallNumbers (add p q) = HasSmallNumbers p × HasSmallNumbers q
 HasSmallNumbers (sub p q) = HasSmallNumbers p × HasSmallNumbers q
 HasSmallNumbers (mul p q) = HasSmallNumbers p × HasSmallNumbers q
 
--- ---- all limits; a text of 4096 bytes has far fewer nodes
+-- ---- all limits; a text of 4096 bytes has no more nodes
 pub record IsWithinLimits (q : QueryTerm) : Type 0 where
   pub depth : query_depth q ≤ 64
   pub sums : sums_in q ≤ 16
   pub names : most_names q ≤ 32
-  pub nodes : nodes_in q < 2 ^ 32
+  pub nodes : nodes_in q ≤ 4096
   pub near : IsNearQuery q
   pub small : HasSmallNumbers q

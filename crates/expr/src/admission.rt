@@ -251,3 +251,6 @@ pub fn admit(q: &Query, facts: &[Fact]) -> Result<(), AdmitErr>
     test_bounds(q, facts, 1)?;
     Ok(())
 }
+
+#[cfg(test)]
+mod tests;

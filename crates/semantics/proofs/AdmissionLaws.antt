@@ -46,12 +46,12 @@ length-nodes_of (add p q) = simp length-append (omega (arith, length-nodes_of p,
 length-nodes_of (sub p q) = simp length-append (omega (arith, length-nodes_of p, length-nodes_of q))
 length-nodes_of (mul p q) = simp length-append (omega (arith, length-nodes_of p, length-nodes_of q))
 
-first_of_two : {A : Type 0} (rule : ℕ → A → Option Refusal) (k : ℕ) (xs ys : List A) → first_refusal rule k (xs ++ ys) ≡ None → first_refusal rule k xs ≡ None
+pub first_of_two : {A : Type 0} (rule : ℕ → A → Option Refusal) (k : ℕ) (xs ys : List A) → first_refusal rule k (xs ++ ys) ≡ None → first_refusal rule k xs ≡ None
 first_of_two rule k xs ys e =
     let split = sym (first_refusal-append rule k xs ys) ∙ e in
     elim (first_refusal rule k xs) as (λ o. option_or o (first_refusal rule (k + length xs) ys) ≡ None → o ≡ None) [ None ↦ λ h. refl | Some r ↦ λ h. h ] split
 
-second_of_two : {A : Type 0} (rule : ℕ → A → Option Refusal) (k : ℕ) (xs ys : List A) → first_refusal rule k (xs ++ ys) ≡ None → first_refusal rule (k + length xs) ys ≡ None
+pub second_of_two : {A : Type 0} (rule : ℕ → A → Option Refusal) (k : ℕ) (xs ys : List A) → first_refusal rule k (xs ++ ys) ≡ None → first_refusal rule (k + length xs) ys ≡ None
 second_of_two rule k xs ys e =
     let split = sym (first_refusal-append rule k xs ys) ∙ e in
     rw (first_of_two rule k xs ys e) at split

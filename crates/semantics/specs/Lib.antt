@@ -1,4 +1,5 @@
 pub mod Admission
+pub mod Admitted
 pub mod Faults
 pub mod Files
 pub mod Limits

@@ -53,3 +53,17 @@ has_great_units D t = nat_lt (2 ^ 125) (units_of D t)
 -- whether the units, 16384-fold for each of the rank, come to more than 2^125 over n positions
 abbrev pub is_great_over : (List ℕ → ℕ) → ℕ → Term → Bool
 is_great_over D n t = nat_lt (2 ^ 125) (16384 ^ rank_of t * n * units_of D t)
+
+-- the units, 16384-fold for each of the rank, come to at most 2^125 over n positions
+abbrev pub FitsOver : (List ℕ → ℕ) → ℕ → Term → Type 0
+FitsOver D n t = 16384 ^ rank_of t * n * units_of D t ≤ 2 ^ 125
+
+-- so do those of the series and of each part of it
+abbrev pub InRange : (List ℕ → ℕ) → ℕ → Term → Type 0
+InRange D n (base name) = FitsOver D n (base name)
+InRange D n (constant v a b) = FitsOver D n (constant v a b)
+InRange D n (bare v) = FitsOver D n (bare v)
+InRange D n (plus u v) = InRange D n u × InRange D n v × FitsOver D n (plus u v)
+InRange D n (minus u v) = InRange D n u × InRange D n v × FitsOver D n (minus u v)
+InRange D n (times u v) = InRange D n u × InRange D n v × FitsOver D n (times u v)
+InRange D n (shift u k) = InRange D n u

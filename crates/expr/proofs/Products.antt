@@ -1,5 +1,5 @@
 -- The units, and the units over so many positions, are at most their product with a power.
-use Rattle.std.proofs.Common.{ℕ, ◌*◌, ◌^◌, ◌≤◌, ◌<◌, arith}
+use Rattle.std.proofs.Common.{ℕ, ◌*◌, ◌^◌, ◌≤◌, arith}
 use Rattle.std.proofs.Math.Nat.{mul-le-mul, one-le-pow}
 
 pub spread_at_least : (rank n units : ℕ) → n * units ≤ 16384 ^ rank * n * units

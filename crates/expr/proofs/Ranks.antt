@@ -1,4 +1,4 @@
-use Rattle.std.proofs.Common.{ℕ, ◌+◌, ◌≤◌, max, arith}
+use Rattle.std.proofs.Common.{◌≤◌, arith}
 use Rattle.semantics.specs.Term.{Term, base, constant, bare, plus, minus, times, shift}
 use Rattle.semantics.specs.Measures.{rank_of, names_in}
 

@@ -1,5 +1,5 @@
 -- What a refusal says, and the size of an expression over so many positions.
-use Rattle.std.specs.Prelude.{ℕ, ◌≡◌, ◌*◌, ◌^◌, ◌≤◌, List, Bool, false, Option, Some, None, Result, Ok, Err}
+use Rattle.std.specs.Prelude.{ℕ, ◌≡◌, ◌*◌, ◌^◌, ◌≤◌, List, false, Option, Some, None, Result, Ok, Err}
 use Rattle.semantics.specs.Admission.{Refusal, unknown, high_rank, outside, too_great}
 use Rattle.semantics.specs.Measures.{rank_of, units_of, some_part, is_great_over}
 use Rattle.semantics.specs.Term.{Term}

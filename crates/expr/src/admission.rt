@@ -43,7 +43,9 @@ fn unknown_in_series(t: &Series, facts: &[Fact]) -> Option<Name>
             }
         }
         Series::Const { .. } | Series::Bare(_) => None,
-        Series::Plus(u, v) | Series::Minus(u, v) | Series::Times(u, v) => match unknown_in_series(u, facts) {
+        Series::Plus(u, v) | Series::Minus(u, v) | Series::Times(u, v) => match unknown_in_series(
+            u, facts,
+        ) {
             Some(name) => Some(name),
             None => unknown_in_series(v, facts),
         },

@@ -131,3 +131,44 @@ pub fn h_units(t: &Series, facts: &[Fact]) -> Option<u128>
         Series::Shift(u, _) => h_units(u, facts),
     }
 }
+
+#[cfg(test)]
+mod tests {
+    use super::*;
+    use crate::name::Name;
+    use std::test::Fail;
+
+    #[test]
+    fn of_a_difference(rt: HostRuntime) -> Result<(), Fail> {
+        let alloc = rt.alloc();
+        let x = Name::of(b"x").ok_or("x")?;
+        let facts = [Fact {
+            name: x,
+            n: 32,
+            d: 10,
+        }];
+        let constant = Series::Const {
+            v: -3,
+            a: 10,
+            b: 50,
+        };
+        let less = Series::Minus(
+            Box::new(alloc, Series::Base(x))?,
+            Box::new(alloc, constant)?,
+        );
+        let t = less.copy(alloc)?;
+        assert_eq!(rt; rank(&t), 1);
+        assert_eq!(rt; domain(&t, &facts), (10, 32));
+        assert_eq!(rt; h_units(&t, &facts), Some(1286));
+        Ok(())
+    }
+
+    #[test]
+    fn of_constants(rt: HostRuntime) {
+        assert_eq!(rt; domain(&Series::Const { v: 1, a: 3, b: 2 }, &[]), (3, 3));
+        assert_eq!(rt; domain(&Series::Bare(1), &[]), (-(1 << 40), 1 << 40));
+        assert_eq!(rt; h_units(&Series::Bare(1 << 124), &[]), Some(1 << 125));
+        assert_eq!(rt; h_units(&Series::Bare((1 << 124) + 1), &[]), None);
+        assert_eq!(rt; h_units(&Series::Bare(i128::MIN), &[]), None);
+    }
+}

@@ -125,3 +125,20 @@ fn is_reserved(bytes: &[u8]) -> bool
         || is_text(bytes, "const")
         || is_text(bytes, "shift")
 }
+
+#[cfg(test)]
+mod tests {
+    use super::*;
+    use std::test::Fail;
+
+    #[test]
+    fn letters_digits_and_underscores(rt: HostRuntime) -> Result<(), Fail> {
+        assert!(rt; Name::of(b"abcdefghijklmnopqrstuvwxyz0123456").is_none());
+        assert!(rt; Name::of(b"_x").is_none());
+        assert!(rt; Name::of(b"covnum").is_none());
+        let name = Name::of(b"temp_2").ok_or("a name")?;
+        assert_eq!(rt; name.bytes(), b"temp_2".as_slice());
+        assert!(rt; name == Name::of(name.bytes()).ok_or("the same name")?);
+        Ok(())
+    }
+}

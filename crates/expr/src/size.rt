@@ -53,7 +53,11 @@ fn bounded(rank: u32, units: u128, n: u64) -> Option<Size>
     ensures spread { IfSome result (λ size. n * units ≤ 2 ^ 125) }
 {
     let total = (scale(rank) * u128::from(n)).checked_mul(units)?;
-    if total <= MOST { Some(Size { rank, units }) } else { None }
+    if total <= MOST {
+        Some(Size { rank, units })
+    } else {
+        None
+    }
 }
 
 fn constant_size(v: i128, n: u64) -> Option<Size>
@@ -107,7 +111,9 @@ fn longest(t: &Series, facts: &[Fact]) -> u32
     match t {
         Series::Base(name) => count_at(facts, name),
         Series::Const { .. } | Series::Bare(_) => 0,
-        Series::Plus(u, v) | Series::Minus(u, v) | Series::Times(u, v) => longest(u, facts).max(longest(v, facts)),
+        Series::Plus(u, v) | Series::Minus(u, v) | Series::Times(u, v) => longest(u, facts).max(
+            longest(v, facts),
+        ),
         Series::Shift(u, _) => longest(u, facts),
     }
 }

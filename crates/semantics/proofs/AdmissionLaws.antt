@@ -1,10 +1,10 @@
 -- Laws of the rules of admission.
-use Rattle.std.proofs.Common.{ℕ, zero, suc, ◌≡◌, ◌+◌, ◌*◌, ◌^◌, ◌≤◌, ◌<◌, max, Bool, true, false, ◌||◌, nat_lt, List, [], ◌∷◌, ◌++◌, length, Option, Some, None, refl, sym, ap, ◌∙◌, arith, add-zero, length-append}
+use Rattle.std.proofs.Common.{ℕ, suc, ◌≡◌, ◌+◌, ◌*◌, ◌^◌, ◌≤◌, max, false, nat_lt, List, [], ◌∷◌, ◌++◌, length, Option, Some, None, refl, sym, ap, ◌∙◌, arith, add-zero, length-append}
 use Rattle.std.proofs.lemmas.Bool.Decides.{nat_tests}
 use Rattle.std.specs.Option.{option_or}
-use Rattle.semantics.specs.Admission.{Fact, Refusal, SumTerm, sums_of, nodes_of, first_refusal, rank_rule, greatest_at, extent_of, is_too_great, HasLowRanks}
+use Rattle.semantics.specs.Admission.{Fact, Refusal, sums_of, nodes_of, first_refusal, rank_rule, greatest_at, extent_of, is_too_great, HasLowRanks}
 use Rattle.semantics.specs.Limits.{sums_in, nodes_in}
-use Rattle.semantics.specs.Measures.{rank_of, units_of, some_part, is_great_over}
+use Rattle.semantics.specs.Measures.{units_of, some_part, is_great_over}
 use Rattle.semantics.specs.Term.{Term, base, constant, bare, plus, minus, times, shift, Range, QueryTerm, number, sum, variance, covariance, add, sub, mul}
 
 option_or_assoc : {A : Type 0} (a b c : Option A) → option_or (option_or a b) c ≡ option_or a (option_or b c)

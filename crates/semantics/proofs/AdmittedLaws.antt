@@ -1,6 +1,5 @@
 -- A plain query that no rule refuses is admitted sum by sum and node by node.
-use Rattle.std.proofs.Common.{◌≡◌, ℕ, ◌+◌, ◌*◌, ◌^◌, ◌≤◌, ◌<◌, max, ℤ, ◌≤ℤ◌, ◌<ℤ◌, Bool, true, false, cond, not, ◌&&◌, ◌||◌, nat_lt, List, [], ◌∷◌, ◌++◌, length, Option, Some, None, refl, sym, ap, ◌∙◌, arith}
-use Rattle.std.proofs.lemmas.Bool.Decides.{nat_tests}
+use Rattle.std.proofs.Common.{◌≡◌, ℕ, ◌+◌, ◌^◌, ◌≤◌, ℤ, ◌≤ℤ◌, ◌<ℤ◌, Bool, true, false, cond, not, ◌&&◌, ◌||◌, nat_lt, List, [], ◌∷◌, ◌++◌, length, Option, Some, None, refl, sym, ◌∙◌, arith}
 use Rattle.std.proofs.lemmas.Bool.{ltb-false}
 use Rattle.std.proofs.lemmas.Int.{ints}
 use Rattle.std.specs.List.{All, find}
@@ -9,10 +8,9 @@ use Rattle.std.proofs.lemmas.List.Folds.{find-append}
 use Rattle.std.specs.Int.{int_max}
 use Rattle.std.specs.Option.{option_or, option_map}
 use Rattle.std.specs.Prelude.{int_lt, int_le}
-use Rattle.semantics.specs.Admission.{Fact, Refusal, SumTerm, is_unknown, count_at, greatest_at, series_names, query_names, sums_of, nodes_of, is_inside, is_outside, extent_of, bound_of, is_too_great, unknown, outside, too_great, rank_rule, domain_rule, range_rule, first_refusal, refusal_of}
+use Rattle.semantics.specs.Admission.{Fact, Refusal, is_unknown, count_at, greatest_at, series_names, query_names, sums_of, nodes_of, is_inside, is_outside, extent_of, bound_of, is_too_great, unknown, outside, too_great, rank_rule, domain_rule, range_rule, first_refusal, refusal_of}
 use Rattle.semantics.specs.Admitted.{IsKnown, IsInDomain, IsAdmittedSum, IsAdmitted}
-use Rattle.semantics.specs.Measures.{rank_of, units_of, some_part, is_great_over, FitsOver, InRange}
-use Rattle.semantics.specs.Plain.{IsPlain}
+use Rattle.semantics.specs.Measures.{some_part, is_great_over, InRange}
 use Rattle.semantics.specs.Term.{Term, base, constant, bare, plus, minus, times, shift, Range, QueryTerm, number, sum, variance, covariance, add, sub, mul}
 use Rattle.semantics.specs.Value.{domain_of}
 use Rattle.semantics.proofs.AdmissionLaws.{first_of_two, second_of_two, HasLowRanks-admitted}
@@ -90,20 +88,20 @@ both_nowhere : (facts : List Fact) (j k l : ℕ) (p q r : QueryTerm) → find (i
 both_nowhere facts j k l p q r names ranks domains bounds =
     let found = sym (find-append (is_unknown facts) (query_names p) (query_names q)) ∙ names in
     let parts = first_of_two (range_rule facts) l (nodes_of p ++ nodes_of q) (r ∷ []) bounds in
-    let whole = second_of_two (range_rule facts) l (nodes_of p ++ nodes_of q) (r ∷ []) bounds in
-    ( record {
-      names = first_none _ _ found;
-      ranks = first_of_two rank_rule j (sums_of p) (sums_of q) ranks;
-      domains = first_of_two (domain_rule facts) k (sums_of p) (sums_of q) domains;
-      bounds = first_of_two (range_rule facts) l (nodes_of p) (nodes_of q) parts;
-    }
-    , record {
-      names = second_none _ _ found;
-      ranks = second_of_two rank_rule j (sums_of p) (sums_of q) ranks;
-      domains = second_of_two (domain_rule facts) k (sums_of p) (sums_of q) domains;
-      bounds = second_of_two (range_rule facts) l (nodes_of p) (nodes_of q) parts;
-    }
-    , untested (is_too_great facts r) (too_great (l + length (nodes_of p ++ nodes_of q))) (first_none _ _ whole)
+    let whole = second_of_two (range_rule facts) l (nodes_of p ++ nodes_of q) (r ∷ []) bounds in (
+      record {
+        names = first_none _ _ found;
+        ranks = first_of_two rank_rule j (sums_of p) (sums_of q) ranks;
+        domains = first_of_two (domain_rule facts) k (sums_of p) (sums_of q) domains;
+        bounds = first_of_two (range_rule facts) l (nodes_of p) (nodes_of q) parts;
+      },
+      record {
+        names = second_none _ _ found;
+        ranks = second_of_two rank_rule j (sums_of p) (sums_of q) ranks;
+        domains = second_of_two (domain_rule facts) k (sums_of p) (sums_of q) domains;
+        bounds = second_of_two (range_rule facts) l (nodes_of p) (nodes_of q) parts;
+      },
+      untested (is_too_great facts r) (too_great (l + length (nodes_of p ++ nodes_of q))) (first_none _ _ whole),
     )
 
 within_bound : (facts : List Fact) (q : QueryTerm) → nat_lt (2 ^ 125) (bound_of facts q) ≡ false → bound_of facts q ≤ 2 ^ 125

@@ -1,9 +1,9 @@
 -- The definitions of value and admission at a few queries, by computing.
-use Rattle.std.proofs.Common.{◌≡◌, ℕ, ◌+◌, ◌-◌, ◌^◌, ℤ, pos, neg_ℤ, List, [], ◌∷◌, Option, Some, None, refl}
+use Rattle.std.proofs.Common.{◌≡◌, ℕ, ◌+◌, ◌-◌, ◌^◌, ℤ, pos, neg_ℤ, List, [], ◌∷◌, Some, None, refl}
 use Rattle.std.specs.Prelude.{codes}
-use Rattle.semantics.specs.Admission.{Fact, Refusal, unknown, high_rank, outside, too_great, refusal_of}
+use Rattle.semantics.specs.Admission.{Fact, unknown, high_rank, outside, too_great, refusal_of}
 use Rattle.semantics.specs.Plain.{plain}
-use Rattle.semantics.specs.Term.{Term, base, constant, bare, plus, minus, times, shift, Range, QueryTerm, number, sum, variance, covariance, add, sub, mul}
+use Rattle.semantics.specs.Term.{Term, base, constant, bare, plus, minus, times, shift, QueryTerm, number, sum, variance, add, sub, mul}
 use Rattle.semantics.specs.Value.{query_value}
 
 -- ---- admission: x has 32 readings within 10, y has none

@@ -1,9 +1,9 @@
 -- The plain query: it has no variance, comes to the same value and stays within the limits.
-use Rattle.std.proofs.Common.{◌≡◌, ℕ, ◌+◌, ◌*◌, ◌^◌, ◌≤◌, max, ℤ, ◌+ℤ◌, ◌-ℤ◌, ◌*ℤ◌, unsigned_abs, List, Option, Some, None, refl, arith}
+use Rattle.std.proofs.Common.{◌≡◌, ℕ, ℤ, ◌+ℤ◌, ◌-ℤ◌, ◌*ℤ◌, List, refl, arith}
 use Rattle.std.proofs.lemmas.Int.{ints}
 use Rattle.semantics.specs.Limits.{query_depth, sums_in, nodes_in, most_names, IsNear, IsNearQuery, IsSmall, HasSmallNumbers, IsWithinLimits}
 use Rattle.semantics.specs.Plain.{plain, IsPlain}
-use Rattle.semantics.specs.Term.{Term, Range, QueryTerm, number, sum, variance, covariance, add, sub, mul}
+use Rattle.semantics.specs.Term.{QueryTerm, number, sum, variance, covariance, add, sub, mul}
 use Rattle.semantics.specs.Value.{query_value}
 
 pub IsPlain-plain : (q : QueryTerm) → IsPlain (plain q)

@@ -1,5 +1,5 @@
 -- The admission of a plain query over what is known of the series: the first of four rules that refuses it, and why.
-use Rattle.std.specs.Prelude.{ℕ, ◌+◌, ◌*◌, ◌^◌, ◌≤◌, max, ℤ, unsigned_abs, List, [], ◌∷◌, ◌++◌, Bool, false, true, ◌&&◌, ◌||◌, not, Option, Some, None, is_some, find, nat_lt, int_lt, int_le, if◌then◌else◌}
+use Rattle.std.specs.Prelude.{ℕ, ◌+◌, ◌*◌, ◌^◌, ◌≤◌, max, ℤ, unsigned_abs, List, [], ◌∷◌, ◌++◌, Bool, false, ◌&&◌, ◌||◌, not, Option, Some, None, is_some, find, nat_lt, int_lt, int_le, if◌then◌else◌}
 use Rattle.std.specs.Int.{int_max}
 use Rattle.std.specs.Option.{option_map, option_map_or, option_or}
 use Rattle.semantics.specs.Measures.{rank_of, units_of, some_part, is_great_over}

@@ -1,9 +1,7 @@
 -- What holds of a plain query that is admitted, sum by sum and node by node.
-use Rattle.std.specs.Prelude.{ℕ, ◌≡◌, ◌^◌, ◌≤◌, ℤ, ◌≤ℤ◌, ◌<ℤ◌, List, false, Option, Some, None, All}
-use Rattle.semantics.specs.Admission.{Fact, is_unknown, count_at, greatest_at, series_names, extent_of, bound_of, refusal_of}
+use Rattle.std.specs.Prelude.{ℕ, ◌≡◌, ◌^◌, ◌≤◌, ◌≤ℤ◌, ◌<ℤ◌, List, false, Option, Some, None, All}
+use Rattle.semantics.specs.Admission.{Fact, is_unknown, count_at, greatest_at, series_names, extent_of, bound_of}
 use Rattle.semantics.specs.Measures.{rank_of, InRange}
-use Rattle.semantics.specs.Plain.{plain, IsPlain}
-use Rattle.semantics.specs.Limits.{IsWithinLimits}
 use Rattle.semantics.specs.Term.{Term, Range, QueryTerm, number, sum, variance, covariance, add, sub, mul}
 use Rattle.semantics.specs.Value.{domain_of}
 

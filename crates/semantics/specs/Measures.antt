@@ -1,5 +1,5 @@
 -- How large a series can be.
-use Rattle.std.specs.Prelude.{ℕ, ◌+◌, ◌*◌, ◌^◌, ◌≤◌, max, ℤ, unsigned_abs, List, Bool, ◌||◌, nat_lt}
+use Rattle.std.specs.Prelude.{ℕ, ◌+◌, ◌*◌, ◌^◌, ◌≤◌, max, unsigned_abs, List, Bool, ◌||◌, nat_lt}
 use Rattle.semantics.specs.Term.{Term, base, constant, bare, plus, minus, times, shift}
 
 -- how many names a series has, each time counted

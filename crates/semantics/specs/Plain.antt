@@ -1,5 +1,5 @@
 -- The plain query, which has sums alone: no variance and no covariance.
-use Rattle.std.specs.Prelude.{ℤ, ◌-ℤ◌, Option, Some}
+use Rattle.std.specs.Prelude.{◌-ℤ◌, Some}
 use Rattle.semantics.specs.Term.{Term, times, Range, QueryTerm, number, sum, variance, covariance, add, sub, mul}
 
 -- N times the sum of the products, less the product of the sums

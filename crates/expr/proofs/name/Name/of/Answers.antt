@@ -1,4 +1,4 @@
-use Rattle.std.proofs.Common.{◌≡◌, true, sym, ◌∙◌}
+use Rattle.std.proofs.Common.{◌≡◌, true, sym}
 use Rattle.semantics.specs.Names.{is_name}
 use Rattle.expr.proofs.NameLaws.{IsNameFields-written, is_name-word}
 use Rattle.expr.proofs.name.Name.of.Goals as goal

@@ -1,4 +1,6 @@
 pub mod AlignedRanges
 pub mod Bounds
 pub mod FitLaws
+pub mod SanityLaws
 pub mod ShapeLaws
+pub mod UnitLaws

@@ -3,4 +3,5 @@ pub mod Bounds
 pub mod FitLaws
 pub mod SanityLaws
 pub mod ShapeLaws
+pub mod TreeLaws
 pub mod UnitLaws

@@ -155,12 +155,12 @@ better-bounded xs n d p q bounded = better-if xs n d p (kept n d q) bounded (kep
 line-bounded : (xs : List ℤ) → 0 < length xs → IsBounded (with_line xs) (length xs) (spread xs)
 line-bounded xs some =
     cond-bounded (length xs) (spread xs) (nat_le 2 (length xs)) (flat_of xs) (better xs (flat_of xs) (kept (length xs) (spread xs) (line_of xs))) (flat-bounded xs some)
-        (better-bounded xs (length xs) (spread xs) (flat_of xs) (line_of xs) (flat-bounded xs some))
+    (better-bounded xs (length xs) (spread xs) (flat_of xs) (line_of xs) (flat-bounded xs some))
 
 parabola-bounded : (xs : List ℤ) → 0 < length xs → IsBounded (with_parabola xs) (length xs) (spread xs)
 parabola-bounded xs some =
     cond-bounded (length xs) (spread xs) (nat_le 3 (length xs)) (with_line xs) (better xs (with_line xs) (kept (length xs) (spread xs) (parabola_of xs))) (line-bounded xs some)
-        (better-bounded xs (length xs) (spread xs) (with_line xs) (parabola_of xs) (line-bounded xs some))
+    (better-bounded xs (length xs) (spread xs) (with_line xs) (parabola_of xs) (line-bounded xs some))
 
 pub best-bounded : (degree : ℕ) (xs : List ℤ) → 0 < length xs → IsBounded (best_curve degree xs) (length xs) (spread xs)
 best-bounded zero xs some = flat-bounded xs some

@@ -1,13 +1,12 @@
 -- Laws of the fitted tree: its readings, its segments, its ranges, and that each segment is true.
-use Rattle.std.proofs.Common.{◌≡◌, ℕ, zero, suc, ◌+◌, ◌-◌, ◌*◌, ◌^◌, ◌<◌, ◌≤◌, ℤ, Option, Some, List, [], ◌∷◌, ◌++◌, length, take, drop, map, refl, ap, ap₂, ◌∙◌, sym, subst, arith, inl, inr, take-append-drop, take-take, drop-drop, take_all, length-take-le, length-drop, pow_pos}
+use Rattle.std.proofs.Common.{◌≡◌, ℕ, zero, suc, ◌+◌, ◌-◌, ◌^◌, ◌<◌, ◌≤◌, ℤ, Some, List, [], ◌∷◌, ◌++◌, length, take, drop, map, refl, ap, ap₂, ◌∙◌, sym, subst, arith, inl, inr, take-append-drop, take-take, drop-drop, take_all, length-take-le, length-drop, pow_pos}
 use Rattle.std.proofs.lemmas.Bool.{cases_lt}
 use Rattle.std.proofs.lemmas.List.{drop-take, map-append}
-use Rattle.segment.specs.declared.segments.Seg.{Seg}
-use Rattle.segment.specs.Fit.{fit_of, fit_over, readings_in, best_curve}
+use Rattle.segment.specs.Fit.{fit_of, fit_over}
 use Rattle.segment.specs.Measure.{AreReadings, IsTrueOf}
-use Rattle.segment.specs.Shape.{Range, Plan, leaf, fork, room, plan, plan_below, ranges, shape}
-use Rattle.segment.specs.Tree.{SegTree, tip, node, readings_of, segs_of, plan_of, AllTrue, width, fits, fitted, fitted_series, all_readings, all_segs, IsTreeOver}
-use Rattle.segment.proofs.ShapeLaws.{plan_below_low, plan_below_high, room-suc, enough, plan_is}
+use Rattle.segment.specs.Shape.{Plan, leaf, fork, room, plan, plan_below, ranges, shape}
+use Rattle.segment.specs.Tree.{node, readings_of, segs_of, plan_of, AllTrue, width, fits, fitted, fitted_series, all_readings, all_segs, IsTreeOver}
+use Rattle.segment.proofs.ShapeLaws.{plan_below_low, plan_below_high, room-suc, enough}
 use Rattle.segment.proofs.FitLaws.{fit-true}
 
 pub width-below : (h start len : ℕ) → width (plan_below h start len) ≡ len

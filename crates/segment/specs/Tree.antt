@@ -1,5 +1,5 @@
 -- The value of a tree: segments over segments, and readings below the last ones.
-use Rattle.std.specs.Prelude.{◌≡◌, ℕ, ◌^◌, ◌<◌, ◌≤◌, ℤ, List, [], ◌∷◌, ◌++◌, length, take, drop, Option, Some, None}
+use Rattle.std.specs.Prelude.{◌≡◌, ℕ, ◌^◌, ◌<◌, ◌≤◌, ◌⊎◌, ℤ, List, [], ◌∷◌, ◌++◌, length, take, drop, Option, Some, None}
 use Rattle.segment.specs.declared.segments.Seg.{Seg}
 use Rattle.segment.specs.Fit.{fit_of}
 use Rattle.segment.specs.Measure.{AreReadings, IsTrueOf}
@@ -28,6 +28,11 @@ root_of (node g left right) = g
 abbrev pub plan_of : SegTree → Plan
 plan_of (tip g xs) = leaf g.start g.len
 plan_of (node g left right) = fork g.start g.len (plan_of left) (plan_of right)
+
+-- the tree itself, or a part of it
+abbrev pub IsPartOf : SegTree → SegTree → Type 0
+IsPartOf part (tip g xs) = part ≡ tip g xs
+IsPartOf part (node g left right) = (part ≡ node g left right) ⊎ (IsPartOf part left ⊎ IsPartOf part right)
 
 -- each segment is true of the readings below it
 abbrev pub AllTrue : SegTree → Type 0

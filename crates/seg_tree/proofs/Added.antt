@@ -8,7 +8,7 @@ use Rattle.segment.specs.Tree.{tip, node, fits}
 use Rattle.segment.proofs.ShapeLaws.{plan-leaf, plan-fork}
 use Rattle.segment.proofs.TreeLaws.{width-plan}
 use Rattle.seg_tree.specs.declared.nodes.Node.{Node}
-use Rattle.seg_tree.specs.Linked.{IsLeaf, IsFork, kept, left_of, right_of, Holds, Extends}
+use Rattle.seg_tree.specs.Linked.{IsLeaf, IsFork, kept, left_child, right_child, Holds, Extends}
 use Rattle.seg_tree.proofs.Extended.{leaf_holds, fork_holds, Holds-Extends}
 
 -- a leaf that was pushed is the fitted tree of its readings
@@ -21,15 +21,15 @@ added_leaf degree old new p start xs x short pushed seg at_end holds =
 
 -- a fork that was pushed over the fitted trees of both parts is the fitted tree of the whole
 pub added_fork : (degree : ℕ) (a b old new : List Node) (p start s : ℕ) (xs : List ℤ) (x : Node) → IsSplit (length xs) s
-    → Holds a (left_of x.below) (plan start s) (fits degree (plan start s) (take s xs))
-    → Holds b (right_of x.below) (plan (start + s) (length xs - s)) (fits degree (plan (start + s) (length xs - s)) (drop s xs))
+    → Holds a (left_child x.below) (plan start s) (fits degree (plan start s) (take s xs))
+    → Holds b (right_child x.below) (plan (start + s) (length xs - s)) (fits degree (plan (start + s) (length xs - s)) (drop s xs))
     → Extends a old → Extends b old → (p ≡ length old) × (new ≡ old ++ x ∷ []) → x.seg ≡ fit_of degree start xs → IsFork x.below
     → Holds new p (plan start (length xs)) (fits degree (plan start (length xs)) xs)
 added_fork degree a b old new p start s xs x split l r ea eb pushed seg forks =
     let left = plan start s in
     let right = plan (start + s) (length xs - s) in
-    let lt = Holds-Extends a old (left_of x.below) left (fits degree left (take s xs)) ea l in
-    let rt = Holds-Extends b old (right_of x.below) right (fits degree right (drop s xs)) eb r in
+    let lt = Holds-Extends a old (left_child x.below) left (fits degree left (take s xs)) ea l in
+    let rt = Holds-Extends b old (right_child x.below) right (fits degree right (drop s xs)) eb r in
     let made = fork_holds old x start (length xs) left right _ _ forks lt rt in
     rw (plan-fork start (length xs) s split, pushed.0, pushed.1, width-plan start s)
     (subst (λ g. Holds (old ++ x ∷ []) (length old) (fork start (length xs) left right) (node g (fits degree left (take s xs)) (fits degree right (drop s xs)))) seg made)

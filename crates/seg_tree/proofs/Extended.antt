@@ -7,7 +7,7 @@ use Rattle.segment.proofs.ShapeLaws.{plan-leaf, plan-fork}
 use Rattle.segment.specs.declared.segments.Seg.{Seg}
 use Rattle.segment.specs.Tree.{SegTree, tip, node, segs_of, readings_of}
 use Rattle.seg_tree.specs.declared.nodes.Node.{Node}
-use Rattle.seg_tree.specs.Linked.{no_node, node_at, IsLeaf, IsFork, kept, left_of, right_of, IsLinked, tree_at, Holds, Extends}
+use Rattle.seg_tree.specs.Linked.{no_node, node_at, IsLeaf, IsFork, kept, left_child, right_child, IsLinked, tree_at, Holds, Extends}
 
 pub Extends_refl : (a : List Node) → Extends a a
 Extends_refl a = take-length a
@@ -34,14 +34,14 @@ IsLinked-Extends old new p (fork s n l r) e w =
     let same = node_at-Extends old new p e w.0 in (
       omega (arith, w.0, Extends-length old new e),
       subst (λ (x : Node). IsFork x.below) (sym same) w.1,
-      subst (λ (x : Node). IsLinked new (left_of x.below) l) (sym same) (IsLinked-Extends old new (left_of (node_at old p).below) l e w.2),
-      subst (λ (x : Node). IsLinked new (right_of x.below) r) (sym same) (IsLinked-Extends old new (right_of (node_at old p).below) r e w.3),
+      subst (λ (x : Node). IsLinked new (left_child x.below) l) (sym same) (IsLinked-Extends old new (left_child (node_at old p).below) l e w.2),
+      subst (λ (x : Node). IsLinked new (right_child x.below) r) (sym same) (IsLinked-Extends old new (right_child (node_at old p).below) r e w.3),
     )
 
 pub tree_at-Extends : (old new : List Node) (p : ℕ) (plan : Plan) → Extends old new → IsLinked old p plan → tree_at new p plan ≡ tree_at old p plan
 tree_at-Extends old new p (leaf s n) e w = rw (node_at-Extends old new p e w.0) refl
 tree_at-Extends old new p (fork s n l r) e w =
-    rw (node_at-Extends old new p e w.0, tree_at-Extends old new (left_of (node_at old p).below) l e w.2, tree_at-Extends old new (right_of (node_at old p).below) r e w.3) refl
+    rw (node_at-Extends old new p e w.0, tree_at-Extends old new (left_child (node_at old p).below) l e w.2, tree_at-Extends old new (right_child (node_at old p).below) r e w.3) refl
 
 pub Holds-Extends : (old new : List Node) (p : ℕ) (plan : Plan) (t : SegTree) → Extends old new → Holds old p plan t → Holds new p plan t
 Holds-Extends old new p plan t e h = record { linked = IsLinked-Extends old new p plan e h.linked; content = tree_at-Extends old new p plan e h.linked ∙ h.content }
@@ -66,18 +66,18 @@ leaf_holds old x s n at_end = record {
 
 -- a new fork over two trees is a tree
 pub fork_holds : (old : List Node) (x : Node) (s n : ℕ) (lp rp : Plan) (lt rt : SegTree) → IsFork x.below
-    → Holds old (left_of x.below) lp lt → Holds old (right_of x.below) rp rt → Holds (old ++ x ∷ []) (length old) (fork s n lp rp) (node x.seg lt rt)
+    → Holds old (left_child x.below) lp lt → Holds old (right_child x.below) rp rt → Holds (old ++ x ∷ []) (length old) (fork s n lp rp) (node x.seg lt rt)
 fork_holds old x s n lp rp lt rt forks a b =
     let new : List Node = old ++ x ∷ [] in
     let at = node_at_push old x in
-    let l = Holds-Extends old new (left_of x.below) lp lt (Extends_push old x) a in
-    let r = Holds-Extends old new (right_of x.below) rp rt (Extends_push old x) b in
+    let l = Holds-Extends old new (left_child x.below) lp lt (Extends_push old x) a in
+    let r = Holds-Extends old new (right_child x.below) rp rt (Extends_push old x) b in
     record {
       linked = (
         within_push old x,
         subst (λ (y : Node). IsFork y.below) (sym at) forks,
-        subst (λ (y : Node). IsLinked new (left_of y.below) lp) (sym at) l.linked,
-        subst (λ (y : Node). IsLinked new (right_of y.below) rp) (sym at) r.linked,
+        subst (λ (y : Node). IsLinked new (left_child y.below) lp) (sym at) l.linked,
+        subst (λ (y : Node). IsLinked new (right_child y.below) rp) (sym at) r.linked,
       );
       content = rw (at, l.content, r.content) refl;
     }
@@ -94,9 +94,9 @@ pub record IsLeafAt (nodes : List Node) (p start len : ℕ) : Type 0 where
 pub record IsForkAt (nodes : List Node) (p start len s : ℕ) : Type 0 where
   pub within : p < length nodes
   pub forks : IsFork (node_at nodes p).below
-  pub left : IsLinked nodes (left_of (node_at nodes p).below) (plan start s)
-  pub right : IsLinked nodes (right_of (node_at nodes p).below) (plan (start + s) (len - s))
-  pub content : tree_at nodes p (plan start len) ≡ node (node_at nodes p).seg (tree_at nodes (left_of (node_at nodes p).below) (plan start s)) (tree_at nodes (right_of (node_at nodes p).below) (plan (start + s) (len - s)))
+  pub left : IsLinked nodes (left_child (node_at nodes p).below) (plan start s)
+  pub right : IsLinked nodes (right_child (node_at nodes p).below) (plan (start + s) (len - s))
+  pub content : tree_at nodes p (plan start len) ≡ node (node_at nodes p).seg (tree_at nodes (left_child (node_at nodes p).below) (plan start s)) (tree_at nodes (right_child (node_at nodes p).below) (plan (start + s) (len - s)))
 
 pub leaf_at : (nodes : List Node) (p start len : ℕ) → len ≤ 16 → IsLinked nodes p (plan start len) → IsLeafAt nodes p start len
 leaf_at nodes p start len short linked =
@@ -116,7 +116,7 @@ pub segs_leaf : (nodes : List Node) (p start len : ℕ) (before after : List Seg
 segs_leaf nodes p start len before after at pushed = pushed ∙ ap (λ t. before ++ segs_of t) (sym at.content)
 
 pub segs_fork : (nodes : List Node) (p start len s : ℕ) (before own left after : List Seg) (l r : ℕ) → IsForkAt nodes p start len s
-    → l ≡ left_of (node_at nodes p).below → r ≡ right_of (node_at nodes p).below
+    → l ≡ left_child (node_at nodes p).below → r ≡ right_child (node_at nodes p).below
     → own ≡ before ++ (node_at nodes p).seg ∷ []
     → left ≡ own ++ segs_of (tree_at nodes l (plan start s))
     → after ≡ left ++ segs_of (tree_at nodes r (plan (start + s) (len - s)))
@@ -130,7 +130,7 @@ pub readings_leaf : (nodes : List Node) (p start len : ℕ) (before after : List
 readings_leaf nodes p start len before after at pushed = pushed ∙ ap (λ t. before ++ readings_of t) (sym at.content)
 
 pub readings_fork : (nodes : List Node) (p start len s : ℕ) (before left after : List ℤ) (l r : ℕ) → IsForkAt nodes p start len s
-    → l ≡ left_of (node_at nodes p).below → r ≡ right_of (node_at nodes p).below
+    → l ≡ left_child (node_at nodes p).below → r ≡ right_child (node_at nodes p).below
     → left ≡ before ++ readings_of (tree_at nodes l (plan start s))
     → after ≡ left ++ readings_of (tree_at nodes r (plan (start + s) (len - s)))
     → after ≡ before ++ readings_of (tree_at nodes p (plan start len))

@@ -26,23 +26,23 @@ abbrev pub kept : Below → List ℤ
 kept (Readings xs) = xs
 kept (Children left right) = []
 
-abbrev pub left_of : Below → ℕ
-left_of (Readings xs) = 0
-left_of (Children left right) = left
+abbrev pub left_child : Below → ℕ
+left_child (Readings xs) = 0
+left_child (Children left right) = left
 
-abbrev pub right_of : Below → ℕ
-right_of (Readings xs) = 0
-right_of (Children left right) = right
+abbrev pub right_child : Below → ℕ
+right_child (Readings xs) = 0
+right_child (Children left right) = right
 
 -- from a place on the links lead to nodes as the ranges have them
 abbrev pub IsLinked : List Node → ℕ → Plan → Type 0
 IsLinked nodes p (leaf start len) = (p < length nodes) × IsLeaf len (node_at nodes p).below
-IsLinked nodes p (fork start len l r) = (p < length nodes) × IsFork (node_at nodes p).below × IsLinked nodes (left_of (node_at nodes p).below) l × IsLinked nodes (right_of (node_at nodes p).below) r
+IsLinked nodes p (fork start len l r) = (p < length nodes) × IsFork (node_at nodes p).below × IsLinked nodes (left_child (node_at nodes p).below) l × IsLinked nodes (right_child (node_at nodes p).below) r
 
 -- the tree of the nodes from a place on
 abbrev pub tree_at : List Node → ℕ → Plan → SegTree
 tree_at nodes p (leaf start len) = tip (node_at nodes p).seg (take len (kept (node_at nodes p).below))
-tree_at nodes p (fork start len l r) = node (node_at nodes p).seg (tree_at nodes (left_of (node_at nodes p).below) l) (tree_at nodes (right_of (node_at nodes p).below) r)
+tree_at nodes p (fork start len l r) = node (node_at nodes p).seg (tree_at nodes (left_child (node_at nodes p).below) l) (tree_at nodes (right_child (node_at nodes p).below) r)
 
 -- the nodes from a place on are this tree
 pub record Holds (nodes : List Node) (p : ℕ) (plan : Plan) (t : SegTree) : Type 0 where

@@ -1,6 +1,7 @@
--- The nodes of an arena that trees reach.
-use Rattle.std.specs.Prelude.{◌≡◌, ℕ, List, Option, Some, None, map, option_map}
+-- The nodes of an arena that the trees of several series reach.
+use Rattle.std.specs.Prelude.{◌≡◌, ℕ, List, Option, Some, map}
 use Rattle.std.specs.List.{All}
+use Rattle.std.specs.Option.{option_map}
 use Rattle.segment.specs.declared.segments.Seg.{Seg}
 use Rattle.segment.specs.Nodes.{Forest, Place, tree_in}
 use Rattle.segment.specs.Shape.{Range, plan}
@@ -18,19 +19,22 @@ pub record Reached : Type 0 where
 abbrev pub forest_of : Reached → Forest
 forest_of s = map (value_of s.nodes) s.trees
 
+abbrev pub len_of : Tree → ℕ
+len_of t = t.n
+
 abbrev pub lengths_of : Reached → List ℕ
-lengths_of s = map (λ t. t.n) s.trees
+lengths_of s = map len_of s.trees
 
 -- all roots are known
 abbrev pub roots_of : Reached → List (Option Seg)
 roots_of s = map (option_map root_of) (forest_of s)
 
--- each tree is one of the arena, and the trees are these
+-- the trees are of the arena, and they are these
 pub record Means (s : Reached) (forest : Forest) : Type 0 where
   pub trees : All (IsTreeOf s.nodes) s.trees
-  pub forest_is : forest ≡ forest_of s
+  pub same : forest ≡ forest_of s
 
--- the node at a place of the arena is that of a range of the tree
+-- a place of the arena has the node of a range of the tree
 pub record StandsIn (nodes : List Node) (t : SegTree) (id : ℕ) (r : Range) : Type 0 where
   pub linked : IsLinked nodes id (plan r.start r.len)
   pub shaped : plan_of (tree_at nodes id (plan r.start r.len)) ≡ plan r.start r.len
@@ -41,4 +45,4 @@ pub record Stands (s : Reached) (id : ℕ) (p : Place) : Type 0 where
   pub trees : All (IsTreeOf s.nodes) s.trees
   pub tree : SegTree
   pub found : tree_in (forest_of s) p.series ≡ Some tree
-  pub within : StandsIn s.nodes tree id p.range
+  pub at : StandsIn s.nodes tree id p.range

@@ -35,7 +35,7 @@ pub enum TreeErr {
 #[derive(Drop)]
 pub struct Arena {
     alloc: Global,
-    nodes: Vec<Node>,
+    pub(crate) nodes: Vec<Node>,
     degree: u8,
     limit: u32,
 }

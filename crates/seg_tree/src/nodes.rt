@@ -1,5 +1,5 @@
 ghost use Rattle.std.specs.Prelude.{◌≡◌, ◌+◌, ◌^◌, ◌<◌, ◌≤◌, length, take, [], ◌∷◌, ◌++◌, IfOk, OnErr};
-ghost use Rattle.seg_tree.specs.Linked.{node_at, IsFork, left_of, right_of};
+ghost use Rattle.seg_tree.specs.Linked.{node_at, IsFork, left_child, right_child};
 
 use segment::Seg;
 use std::alloc::AllocError;
@@ -35,8 +35,8 @@ pub(crate) fn push(nodes: &mut Vec<Node>, node: Node) -> Result<u32, AllocError>
 pub(crate) fn children(nodes: &[Node], place: u32) -> (u32, u32)
     requires within { place < length nodes.now }
     requires fork { IsFork (node_at nodes.now place).below }
-    ensures left { result.0 ≡ left_of (node_at nodes.now place).below }
-    ensures right { result.1 ≡ right_of (node_at nodes.now place).below }
+    ensures left { result.0 ≡ left_child (node_at nodes.now place).below }
+    ensures right { result.1 ≡ right_child (node_at nodes.now place).below }
 {
     match nodes[place as usize].below {
         Below::Children(left, right) => (left, right),

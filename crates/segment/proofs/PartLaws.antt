@@ -1,5 +1,5 @@
 -- Where the parts of a tree lie: their ranges, their readings, and their segments among those of the whole.
-use Rattle.std.proofs.Common.{◌≡◌, ℕ, zero, suc, ◌+◌, ◌-◌, ◌<◌, ◌≤◌, ◌&&◌, ◌⊎◌, inl, inr, false, true, ℤ, List, [], ◌∷◌, ◌++◌, length, take, drop, Option, Some, None, refl, ap, ap₂, ◌∙◌, sym, subst, arith, length-append, length-drop, take_all, pow_pos, eq-eqb, ne_eqb}
+use Rattle.std.proofs.Common.{◌≡◌, ℕ, zero, suc, ◌+◌, ◌-◌, ◌<◌, ◌≤◌, ◌&&◌, inl, inr, false, List, [], ◌∷◌, ◌++◌, length, take, drop, Some, None, refl, ap, ap₂, ◌∙◌, sym, subst, arith, length-append, length-drop, take_all, pow_pos, eq-eqb, ne_eqb}
 use Rattle.std.specs.Prelude.{◌==◌}
 use Rattle.std.specs.List.{Contains}
 use Rattle.std.proofs.lemmas.Bool.{cases_lt, cases_eq, cases_Bool}
@@ -7,9 +7,9 @@ use Rattle.std.proofs.lemmas.List.{take-append-le, drop-append-le}
 use Rattle.std.proofs.Math.Seq.{drop-append-add}
 use Rattle.std.proofs.lemmas.List.Elements.{Contains-append_left, Contains-append_right}
 use Rattle.segment.specs.declared.segments.Seg.{Seg}
-use Rattle.segment.specs.Measure.{AreReadings, IsTrueOf, IsSane, spread}
+use Rattle.segment.specs.Measure.{IsTrueOf, IsSane, spread}
 use Rattle.segment.specs.Nodes.{find_seg}
-use Rattle.segment.specs.Shape.{Range, Plan, leaf, fork, room, plan, plan_below, ranges, shape}
+use Rattle.segment.specs.Shape.{Range, room, plan, plan_below, ranges, shape}
 use Rattle.segment.specs.Tree.{SegTree, tip, node, readings_of, segs_of, root_of, plan_of, width, IsPartOf, AllTrue, IsTreeOver}
 use Rattle.segment.proofs.SanityLaws.{true-sane}
 use Rattle.segment.proofs.ShapeLaws.{plan_below_low, plan_below_high, room-suc, enough, shape-plan}

@@ -24,7 +24,7 @@ reach-le : (p : Curve) (n d : ℕ) → IsBounded p n d → reach p n ≤ 3 * coe
 unfolding reach
 reach-le p n d bounded = most_below-le (reach_at p) n (3 * coefficient_bound d) (λ i lt. estimate-le p n d i bounded lt)
 
-magnitude-le : (xs : List ℤ) (i : ℕ) → i < length xs → magnitude_at xs i ≤ spread xs
+pub magnitude-le : (xs : List ℤ) (i : ℕ) → i < length xs → magnitude_at xs i ≤ spread xs
 unfolding spread
 magnitude-le xs i lt = most_below-at (magnitude_at xs) (length xs) i lt
 

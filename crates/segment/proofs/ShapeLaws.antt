@@ -93,3 +93,14 @@ count-plan start len some = omega (arith, count-below len start len some (omega 
 pub shape-plan : (n : ℕ) → 0 < n → shape n ≡ ranges (plan 0 n)
 shape-plan zero some = absurd (omega arith)
 shape-plan (suc n) some = refl
+
+split-below : (h len : ℕ) → 16 < len → len ≤ room h → (s : ℕ) × IsSplit len s
+split-below zero len many fits = absurd (omega arith)
+split-below (suc h) len many fits = elim (cases_lt (room h) len) [
+  | inr low ↦ split-below h len many low
+  | inl high ↦ (room h, record { power = (h, refl); below = high; greatest = omega (arith, room-suc h) })
+]
+
+-- more than one block is split
+pub split_exists : (len : ℕ) → 16 < len → (s : ℕ) × IsSplit len s
+split_exists len many = split-below len len many (omega (arith, enough len))

@@ -39,19 +39,3 @@ pub added_part : (degree : ℕ) (nodes : List Node) (p start n : ℕ) (ys zs : L
     → Holds nodes p (plan start (length ys)) (fits degree (plan start (length ys)) ys) → Holds nodes p (plan start n) (fits degree (plan start n) zs)
 added_part degree nodes p start n ys zs same len t =
     subst (λ ws. Holds nodes p (plan start n) (fits degree (plan start n) ws)) same (subst (λ k. Holds nodes p (plan start k) (fits degree (plan start k) ys)) len t)
-
--- no reading stands past the end
-get_or-past : (xs : List ℤ) (i : ℕ) → length xs ≤ i → get_or xs i (pos 0) ≡ pos 0
-get_or-past [] i h = refl
-get_or-past (x ∷ xs) zero h = absurd (omega arith)
-get_or-past (x ∷ xs) (suc i) h = get_or-past xs i (omega arith)
-
--- parts of readings are readings
-pub front_readings : (xs : List ℤ) (s : ℕ) → AreReadings xs → AreReadings (take s xs)
-front_readings xs s are i = elim (cases_lt i s) [
-  | inl below ↦ rw (get_or-take s xs i (pos 0) below) (are i)
-  | inr past ↦ rw (get_or-past (take s xs) i (omega (arith, length-take s xs))) (omega arith)
-]
-
-pub back_readings : (xs : List ℤ) (s : ℕ) → AreReadings xs → AreReadings (drop s xs)
-back_readings xs s are i = rw (get_or-drop s xs i (pos 0)) (are (s + i))

@@ -2,6 +2,7 @@ pub mod AlignedRanges
 pub mod Bounds
 pub mod FitLaws
 pub mod PartLaws
+pub mod ReadingLaws
 pub mod SanityLaws
 pub mod ShapeLaws
 pub mod TreeLaws

@@ -5,8 +5,9 @@ ghost use Rattle.semantics.specs.Readings.{reading};
 ghost use Rattle.segment.specs.Measure.{unit, miss, spread, coefficient_bound, AreReadings, IsBounded, IsTrueOf};
 ghost use Rattle.segment.specs.Fit.{in_block, block_of, bend_of, scaled, straightened, moment_at, slope_by, level_by, curve_by, flat_of, line_of, parabola_of, kept, better, with_line, with_parabola, fit_of};
 
-use crate::curves::{at, plus};
+use crate::curves::{UNITS, at, plus};
 use crate::measures::{miss_of, reach_of, spread_of};
+use crate::sanity::greatest_coefficient;
 use crate::{Curve, Seg};
 use power_sum::power;
 
@@ -292,7 +293,7 @@ fn keeps(x: i128, n: usize, d: u64) -> bool
     ensures yes { result ≡ true → unsigned_abs x * n ≤ coefficient_bound d }
     ensures no { result ≡ false → coefficient_bound d < unsigned_abs x * n }
 {
-    x.unsigned_abs() * n as u128 <= u128::from(8 * 16384 * d.max(1))
+    x.unsigned_abs() * n as u128 <= greatest_coefficient(d)
 }
 
 /// A quotient, rounded down.
@@ -319,7 +320,7 @@ fn scaled_up(x: i128) -> i128
     ensures value { result ≡ pos unit *ℤ x }
     ensures bound { unsigned_abs result ≡ unit * unsigned_abs x }
 {
-    poly::times(16384, x)
+    poly::times(i128::from(UNITS), x)
 }
 
 /// The mean of `n` readings, rounded down.

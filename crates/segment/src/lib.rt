@@ -8,6 +8,8 @@ mod node_access;
 mod sanity;
 mod segments;
 mod shape;
+#[cfg(test)]
+mod tests;
 
 pub use curves::Curve;
 pub use fitting::fit;

@@ -1,6 +1,7 @@
 ghost use Rattle.std.specs.Prelude.{◌≡◌, ◌+◌, ◌*◌, ◌^◌, ◌<◌, ◌≤◌, pos, ◌*ℤ◌, ◌+ℤ◌, ◌-ℤ◌, length, unsigned_abs, [], ◌∷◌};
 ghost use Rattle.segment.specs.Measure.{unit, miss, spread, reach, unit_seg, AreReadings, IsBounded, IsTrueOf};
 
+use crate::curves::UNITS;
 use crate::{Curve, Measures, Seg};
 
 /// The measures of the curve `a + b * i + c * i ^ 2` over the readings.
@@ -95,5 +96,5 @@ fn scaled(x: i32) -> i64
     ensures value { result ≡ pos unit *ℤ x }
     ensures bound { unsigned_abs result ≤ 2 ^ 44 }
 {
-    16384 * i64::from(x)
+    i64::from(UNITS) * i64::from(x)
 }

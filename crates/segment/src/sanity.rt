@@ -2,6 +2,7 @@ ghost use Rattle.std.specs.Prelude.{◌≡◌, ◌*◌, ◌^◌, ◌≤◌, ◌�
 ghost use Rattle.segment.specs.Measure.{unit, coefficient_bound, curve_of, IsBounded, IsSane, TrueIsSane};
 
 use crate::Seg;
+use crate::curves::UNITS;
 
 /// Whether a segment keeps the bounds that every true segment keeps, where no reading of its series has a greater
 /// magnitude than `root_d`.
@@ -13,8 +14,8 @@ pub fn is_sane(s: &Seg, root_d: u64) -> bool
     is_bounded(s)
         && s.d <= root_d
         && root_d <= 1_000_000_000
-        && u128::from(s.f) <= 24 * 16384 * most
-        && s.l <= 25 * 16384 * most * len
+        && u128::from(s.f) <= 24 * u128::from(UNITS) * most
+        && s.l <= 25 * u128::from(UNITS) * most * len
 }
 
 /// Whether a segment's coefficients keep their bound.
@@ -32,7 +33,7 @@ fn is_bounded(s: &Seg) -> bool
 pub(crate) fn greatest_coefficient(d: u64) -> u128
     ensures { result ≡ coefficient_bound d }
 {
-    8 * 16384 * u128::from(d.max(1))
+    8 * u128::from(UNITS) * u128::from(d.max(1))
 }
 
 /// Every true segment of readings is sane for the greatest magnitude of their series.

@@ -4,7 +4,8 @@ use Rattle.segment.specs.Measure.{AreReadings}
 use Rattle.segment.specs.declared.segments.Seg.{Seg}
 use Rattle.seg_tree.proofs.Extended.{Extends_refl}
 use Rattle.segment.proofs.ShapeLaws.{count-leaf, count-fork}
-use Rattle.seg_tree.proofs.Added.{added_leaf, added_fork, added_part, front_readings, back_readings}
+use Rattle.seg_tree.proofs.Added.{added_leaf, added_fork, added_part}
+use Rattle.segment.proofs.ReadingLaws.{AreReadings-take, AreReadings-drop}
 use Rattle.seg_tree.proofs.building.+add_nodes.Goals as goal
 
 pub add_nodes-requires : goal.add_nodes-requires
@@ -14,7 +15,7 @@ add_nodes-requires t c =
     let n = count-fork c.args.start (length c.args.xs.now) c.in-Some.s parts in
     let s : length c.split_at.result.0.now ≡ c.in-Some.s = c.split_at.ensures.front_len in
     let same : count (plan c.args.start (length c.split_at.result.0.now)) ≡ count (plan c.args.start c.in-Some.s) = ap (λ k. count (plan c.args.start k)) s in
-    (omega (arith, c.decreases, parts.below), (omega (arith, parts.below, parts.greatest), (omega (arith, parts.below), (subst AreReadings (sym c.split_at.ensures.front) (front_readings c.args.xs.now c.in-Some.s c.requires.small), (c.requires.degree, omega (arith, n, same))))))
+    (omega (arith, c.decreases, parts.below), (omega (arith, parts.below, parts.greatest), (omega (arith, parts.below), (subst AreReadings (sym c.split_at.ensures.front) (AreReadings-take c.args.xs.now c.in-Some.s c.requires.small), (c.requires.degree, omega (arith, n, same))))))
 
 pub returns-in_ok-leaf-in-None-clause-count : goal.returns-in_ok-leaf-in-None-clause-count
 returns-in_ok-leaf-in-None-clause-count t c =
@@ -35,7 +36,7 @@ add_nodes-requires-in-Some t c =
     let r : length c.split_at.result.1.now ≡ length c.args.xs.now - c.in-Some.s = omega (arith, c.split_at.ensures.back_len) in
     let same_l : count (plan c.args.start (length c.split_at.result.0.now)) ≡ count (plan c.args.start c.in-Some.s) = ap (λ k. count (plan c.args.start k)) s in
     let same_r : count (plan (c.args.start + c.in-Some.s) (length c.split_at.result.1.now)) ≡ count (plan (c.args.start + c.in-Some.s) (length c.args.xs.now - c.in-Some.s)) = ap (λ k. count (plan (c.args.start + c.in-Some.s) k)) r in
-    (omega (arith, c.decreases, parts.below, parts.power), (omega (arith, parts.below, parts.greatest), (omega (arith, parts.below, r), (subst AreReadings (sym c.split_at.ensures.back) (back_readings c.args.xs.now c.in-Some.s c.requires.small), (c.requires.degree, omega (arith, n, same_l, same_r, c.in_ok-left-in-Some.ensures.count))))))
+    (omega (arith, c.decreases, parts.below, parts.power), (omega (arith, parts.below, parts.greatest), (omega (arith, parts.below, r), (subst AreReadings (sym c.split_at.ensures.back) (AreReadings-drop c.args.xs.now c.in-Some.s c.requires.small), (c.requires.degree, omega (arith, n, same_l, same_r, c.in_ok-left-in-Some.ensures.count))))))
 
 pub push-requires-in-Some : goal.push-requires-in-Some
 push-requires-in-Some t c =

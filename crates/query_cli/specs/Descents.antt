@@ -1,0 +1,48 @@
+-- The descent: from the cut of the root, the row that is charged most is replaced by what is below it, until the
+-- interval is no wider than a budget.
+use Rattle.std.specs.Prelude.{◌≡◌, ℕ, zero, suc, ◌+◌, ◌≤◌, ◌<◌, ◌==◌, List, [], ◌∷◌, ◌++◌, length, max, if◌then◌else◌, ℤ}
+use Rattle.segment.specs.Shape.{Plan, leaf, fork, plan}
+use Rattle.query_cli.specs.Cuts.{Row, closed_row, opened_row, charge, width}
+
+-- the cut of the root over n readings
+abbrev pub root_cut : ℕ → List Row
+root_cut zero = []
+root_cut (suc n) = closed_row 0 (suc n) ∷ []
+
+abbrev pub row_of : Plan → Row
+row_of (leaf start len) = closed_row start len
+row_of (fork start len left right) = closed_row start len
+
+-- the two children of a node, or a leaf opened
+abbrev pub rows_below : Plan → List Row
+rows_below (leaf start len) = opened_row start len ∷ []
+rows_below (fork start len left right) = row_of left ∷ row_of right ∷ []
+
+-- the greatest charge
+abbrev pub most_charge : List ℤ → ℕ → ℕ → List Row → ℕ
+most_charge xs from until [] = 0
+most_charge xs from until (row ∷ cut) = max (charge xs from until row) (most_charge xs from until cut)
+
+-- the first row of a charge, which is that of the least start, is replaced by what is below it
+abbrev pub expand_first : List ℤ → ℕ → ℕ → ℕ → List Row → List Row
+expand_first xs from until most [] = []
+expand_first xs from until most (row ∷ cut) =
+    if charge xs from until row == most then rows_below (plan row.start row.len) ++ cut
+    else row ∷ expand_first xs from until most cut
+
+-- the next cut: the row of the greatest charge is replaced; nothing is where there is no charge
+abbrev pub next_cut : List ℤ → ℕ → ℕ → List Row → List Row
+next_cut xs from until cut =
+    if most_charge xs from until cut == 0 then cut else expand_first xs from until (most_charge xs from until cut) cut
+
+-- the cut after so many steps
+abbrev pub cut_after : List ℤ → ℕ → ℕ → ℕ → List Row
+cut_after xs from until zero = root_cut (length xs)
+cut_after xs from until (suc steps) = next_cut xs from until (cut_after xs from until steps)
+
+-- the first cut of the descent whose interval is no wider than the budget
+pub record IsLast (xs : List ℤ) (from until budget : ℕ) (cut : List Row) : Type 0 where
+  pub steps : ℕ
+  pub reached : cut ≡ cut_after xs from until steps
+  pub within : width xs from until cut ≤ budget
+  pub before : (k : ℕ) → k < steps → budget < width xs from until (cut_after xs from until k)

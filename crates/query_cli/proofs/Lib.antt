@@ -1,1 +1,2 @@
+pub mod Containment
 pub mod WorkedCuts

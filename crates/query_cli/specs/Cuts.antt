@@ -1,7 +1,7 @@
 -- Cuts of the tree of one series, and the interval that a cut gives to the sum of the readings over a range.
 --
 -- The range is of the positions from `from` up to `until`. Estimates and charges are in units of 1 / 2 ^ 14.
-use Rattle.std.specs.Prelude.{ℕ, ◌+◌, ◌-◌, Bool, true, false, List, [], ◌∷◌, length, take, drop, min, max, nat_lt, if◌then◌else◌, ℤ, pos, ◌+ℤ◌, ◌-ℤ◌, ◌*ℤ◌}
+use Rattle.std.specs.Prelude.{◌≡◌, ℕ, ◌+◌, ◌-◌, ◌<◌, Bool, true, false, List, [], ◌∷◌, length, take, drop, min, max, nat_lt, if◌then◌else◌, ℤ, pos, ◌+ℤ◌, ◌-ℤ◌, ◌*ℤ◌}
 use Rattle.semantics.specs.Readings.{reading, from_zero}
 use Rattle.semantics.specs.Sums.{total_below}
 use Rattle.semantics.specs.Quotients.{floor_of, ceil_of}
@@ -70,6 +70,11 @@ high_end xs from until cut = floor_of (estimates xs from until cut +ℤ pos (cha
 
 abbrev pub width : List ℤ → ℕ → ℕ → List Row → ℕ
 width xs from until cut = from_zero (high_end xs from until cut -ℤ low_end xs from until cut)
+
+-- the rows cover the positions from `start` up to `end`, one behind the other
+abbrev pub IsPartition : ℕ → ℕ → List Row → Type 0
+IsPartition start end [] = start ≡ end
+IsPartition start end (row ∷ cut) = (row.start ≡ start) × (0 < row.len) × IsPartition (start + row.len) end cut
 
 -- how many rows are opened
 abbrev pub opened_in : List Row → ℕ

@@ -1,0 +1,4 @@
+pub mod AlignedRanges
+pub mod Bounds
+pub mod FitLaws
+pub mod ShapeLaws

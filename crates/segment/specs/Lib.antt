@@ -1,0 +1,4 @@
+pub mod Fit
+pub mod Measure
+pub mod Shape
+pub mod Tree

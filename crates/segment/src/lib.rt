@@ -1,0 +1,14 @@
+//! Segments: a curve over readings, and how far it is from them; and the shape of the trees that they make.
+#![tactic(auto)]
+
+mod curves;
+mod fitting;
+mod measures;
+mod segments;
+mod shape;
+
+pub use curves::Curve;
+pub use fitting::fit;
+pub use measures::measure;
+pub use segments::{Measures, Seg};
+pub use shape::split;

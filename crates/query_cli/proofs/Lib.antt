@@ -1,2 +1,4 @@
 pub mod Containment
+pub mod NodeLaws
+pub mod DescentLaws
 pub mod WorkedCuts

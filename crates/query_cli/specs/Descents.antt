@@ -9,14 +9,15 @@ abbrev pub root_cut : ℕ → List Row
 root_cut zero = []
 root_cut (suc n) = closed_row 0 (suc n) ∷ []
 
-abbrev pub row_of : Plan → Row
-row_of (leaf start len) = closed_row start len
-row_of (fork start len left right) = closed_row start len
+-- the row of the whole of a tree
+abbrev pub top_row : Plan → Row
+top_row (leaf start len) = closed_row start len
+top_row (fork start len left right) = closed_row start len
 
 -- the two children of a node, or a leaf opened
 abbrev pub rows_below : Plan → List Row
 rows_below (leaf start len) = opened_row start len ∷ []
-rows_below (fork start len left right) = row_of left ∷ row_of right ∷ []
+rows_below (fork start len left right) = top_row left ∷ top_row right ∷ []
 
 -- the greatest charge
 abbrev pub most_charge : List ℤ → ℕ → ℕ → List Row → ℕ
@@ -46,3 +47,7 @@ pub record IsLast (xs : List ℤ) (from until budget : ℕ) (cut : List Row) : T
   pub reached : cut ≡ cut_after xs from until steps
   pub within : width xs from until cut ≤ budget
   pub before : (k : ℕ) → k < steps → budget < width xs from until (cut_after xs from until k)
+
+-- every budget is met, 0 too
+abbrev pub EachBudgetIsMet : Type 0
+EachBudgetIsMet = (xs : List ℤ) (from until budget : ℕ) → (cut : List Row) × IsLast xs from until budget cut

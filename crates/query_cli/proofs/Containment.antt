@@ -35,10 +35,10 @@ plain_sum-over xs from until =
 -- ---- one row
 
 -- the reading at a place of a part
-reading-part : (xs : List ℤ) (start len i : ℕ) → i < len → reading (take len (drop start xs)) i ≡ reading xs (start + i)
+pub reading-part : (xs : List ℤ) (start len i : ℕ) → i < len → reading (take len (drop start xs)) i ≡ reading xs (start + i)
 reading-part xs start len i lt = get_or-take len (drop start xs) i (pos 0) lt ∙ get_or-drop start xs i (pos 0)
 
-length-part : (xs : List ℤ) (start len : ℕ) → start + len ≤ length xs → length (take len (drop start xs)) ≡ len
+pub length-part : (xs : List ℤ) (start len : ℕ) → start + len ≤ length xs → length (take len (drop start xs)) ≡ len
 length-part xs start len inside = simp (length-take, length-drop) (omega arith)
 
 -- the positions from `first` on, k of them, within a part with a curve

@@ -1,5 +1,6 @@
 pub mod Containment
 pub mod NodeLaws
 pub mod DescentLaws
+pub mod PlaceLaws
 pub mod RowLaws
 pub mod WorkedCuts

@@ -21,6 +21,14 @@ from_zero-low : (z : ℤ) → z ≤ℤ pos 0 → from_zero z ≡ 0
 from_zero-low (pos n) low = omega (arith, ints)
 from_zero-low (negsuc n) low = refl
 
+from_zero-high : (z : ℤ) → pos 0 ≤ℤ z → pos (from_zero z) ≡ z
+from_zero-high (pos n) high = refl
+from_zero-high (negsuc n) high = absurd (omega (arith, ints))
+
+-- the ends of an interval that holds a value are in order
+pub from_zero-between : (lo v hi : ℤ) → lo ≤ℤ v → v ≤ℤ hi → pos (from_zero (hi -ℤ lo)) ≡ (hi -ℤ lo)
+from_zero-between lo v hi low high = from_zero-high (hi -ℤ lo) (omega (arith, ints))
+
 from_zero-gap : (z : ℤ) (a b : ℕ) → z ≡ (pos b -ℤ pos a) → from_zero z ≡ b - a
 from_zero-gap (pos n) a b is = omega (arith, ints)
 from_zero-gap (negsuc n) a b is = omega (arith, ints)

@@ -181,3 +181,52 @@ closed_holds xs segs seg from until place start len some inside tree is small =
     let holds : Holds xs segs from until (row_for xs from until place start len) =
         record { some = some; inside = inside; tree = tree; estimated = refl; charged = refl; small = subst IsSmall e small } in
     (subst (Holds xs segs from until) (sym e) holds, ap shown e)
+
+-- what is known of the children of a row that is split at s, where the right one stands at a place q
+pub record Children (xs : List ℤ) (segs : List Seg) (from until : ℕ) (row : CutRow) (s q : ℕ) : Type 0 where
+  pub left_within : row.place + 1 < length segs
+  pub right_within : q < length segs
+  pub left_flat : IsFlat (get_or segs (row.place + 1) no_seg)
+  pub right_flat : IsFlat (get_or segs q no_seg)
+  pub left : (made : CutRow) → made ≡ closed_by (get_or segs (row.place + 1) no_seg) (row.place + 1) from until → IsSmall made → Holds xs segs from until made × (shown made ≡ closed_row row.start s)
+  pub right : (made : CutRow) → made ≡ closed_by (get_or segs q no_seg) q from until → IsSmall made → Holds xs segs from until made × (shown made ≡ closed_row (row.start + s) (row.len - s))
+
+-- the closed row that was made of the segment at a place
+made_holds : (xs : List ℤ) (segs : List Seg) (from until place start len : ℕ) (made : CutRow) → 0 < len → start + len ≤ length xs → HasTree xs segs place start len
+    → made ≡ closed_by (get_or segs place no_seg) place from until → IsSmall made → Holds xs segs from until made × (shown made ≡ closed_row start len)
+made_holds xs segs from until place start len made some inside tree is small =
+    let holds = closed_holds xs segs (get_or segs place no_seg) from until place start len some inside tree (stands_at xs segs place start len tree).is (subst IsSmall is small) in
+    subst (λ row. Holds xs segs from until row × (shown row ≡ closed_row start len)) (sym is) holds
+
+pub children_of : (xs : List ℤ) (segs : List Seg) (from until : ℕ) (row : CutRow) (s q : ℕ) → length xs ≤ 2 ^ 20 → AreReadings xs → Holds xs segs from until row → (16 < row.len) × IsSplit row.len s → q ≡ row.place + 2 * ((s + 15) / 16)
+    → Children xs segs from until row s q
+children_of xs segs from until row s q few small holds (large, split) at =
+    let inside = holds.inside in
+    let below = split.below in
+    let some : 0 < s = omega (arith, split.greatest) in
+    let left : HasTree xs segs (row.place + 1) row.start s = left_tree xs segs row.place row.start row.len s split holds.tree in
+    let right : HasTree xs segs q (row.start + s) (row.len - s) = subst (λ k. HasTree xs segs k (row.start + s) (row.len - s)) (sym at) (right_tree xs segs row.place row.start row.len s some split holds.tree) in
+    let left_at = stands_at xs segs (row.place + 1) row.start s left in
+    let right_at = stands_at xs segs q (row.start + s) (row.len - s) right in
+    record {
+      left_within = left_at.within;
+      right_within = right_at.within;
+      left_flat = rw left_at.is (fit_is_flat xs row.start s some (omega arith) few small);
+      right_flat = rw right_at.is (fit_is_flat xs (row.start + s) (row.len - s) (omega arith) (omega arith) few small);
+      left = λ made. made_holds xs segs from until (row.place + 1) row.start s made some (omega arith) left;
+      right = λ made. made_holds xs segs from until q (row.start + s) (row.len - s) made (omega arith) (omega arith) right;
+    }
+
+-- the closed row of the root
+pub root_of : (xs : List ℤ) (segs : List Seg) (from until : ℕ) (made : CutRow) → 0 < length xs → segs ≡ fits_of xs → made ≡ closed_by (get_or segs 0 no_seg) 0 from until → IsSmall made
+    → Holds xs segs from until made × (shown made ≡ closed_row 0 (length xs))
+root_of xs segs from until made some fitted is small = made_holds xs segs from until 0 0 (length xs) made some (omega arith) (root_tree xs segs some fitted) is small
+
+pub record RootStands (segs : List Seg) : Type 0 where
+  pub within : 0 < length segs
+  pub flat : IsFlat (get_or segs 0 no_seg)
+
+pub root_stands : (xs : List ℤ) (segs : List Seg) → 0 < length xs → length xs ≤ 2 ^ 20 → AreReadings xs → segs ≡ fits_of xs → RootStands segs
+root_stands xs segs some few small fitted =
+    let at = stands_at xs segs 0 0 (length xs) (root_tree xs segs some fitted) in
+    record { within = at.within; flat = rw at.is (fit_is_flat xs 0 (length xs) some (omega arith) few small) }

@@ -2,7 +2,7 @@
 --
 -- The range is of the positions from `from` up to `until`. Estimates and charges are in units of 1 / 2 ^ 14.
 use Rattle.std.specs.Prelude.{◌≡◌, ℕ, ◌+◌, ◌-◌, ◌<◌, ◌≤◌, Bool, true, false, List, [], ◌∷◌, min, max, nat_lt, if◌then◌else◌, ℤ, pos, ◌+ℤ◌, ◌-ℤ◌, ◌*ℤ◌}
-use Rattle.std.specs.List.{All, Contains}
+use Rattle.std.specs.List.{All, Contains, count_by}
 use Rattle.semantics.specs.Readings.{reading, from_zero}
 use Rattle.semantics.specs.Sums.{total_below}
 use Rattle.semantics.specs.Quotients.{floor_of, ceil_of}
@@ -91,7 +91,9 @@ pub record IsCut (n : ℕ) (cut : List Row) : Type 0 where
   pub partition : IsPartition 0 n cut
   pub nodes : All (IsNode n) cut
 
+abbrev pub is_opened : Row → Bool
+is_opened row = row.opened
+
 -- how many rows are opened
 abbrev pub opened_in : List Row → ℕ
-opened_in [] = 0
-opened_in (row ∷ cut) = (if row.opened then 1 else 0) + opened_in cut
+opened_in cut = count_by is_opened cut

@@ -2,7 +2,8 @@
 -- interval is no wider than a budget.
 use Rattle.std.specs.Prelude.{◌≡◌, ℕ, zero, suc, ◌+◌, ◌≤◌, ◌<◌, ◌==◌, List, [], ◌∷◌, ◌++◌, length, max, if◌then◌else◌, ℤ}
 use Rattle.segment.specs.Shape.{Plan, leaf, fork, plan}
-use Rattle.query_cli.specs.Cuts.{Row, closed_row, opened_row, charge, width}
+use Rattle.query_cli.specs.declared.descent.Answer.{Answer}
+use Rattle.query_cli.specs.Cuts.{Row, closed_row, opened_row, charge, low_end, high_end, width, IsCut, opened_in}
 
 -- the cut of the root over n readings
 abbrev pub root_cut : ℕ → List Row
@@ -51,3 +52,14 @@ pub record IsLast (xs : List ℤ) (from until budget : ℕ) (cut : List Row) : T
 -- every budget is met, 0 too
 abbrev pub EachBudgetIsMet : Type 0
 EachBudgetIsMet = (xs : List ℤ) (from until budget : ℕ) → (cut : List Row) × IsLast xs from until budget cut
+
+-- an answer tells the interval of the last cut
+pub record Tells (xs : List ℤ) (from until budget : ℕ) (a : Answer) : Type 0 where
+  pub cut : List Row
+  pub last : IsLast xs from until budget cut
+  pub is_cut : IsCut (length xs) cut
+  pub low : a.lo ≡ low_end xs from until cut
+  pub high : a.hi ≡ high_end xs from until cut
+  pub wide : a.width ≡ width xs from until cut
+  pub nodes : a.nodes ≡ length cut
+  pub opened : a.opened ≡ opened_in cut

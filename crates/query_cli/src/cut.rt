@@ -1,13 +1,13 @@
 //! The rows of a cut, and the interval that they give to a sum.
 
-ghost use Rattle.std.specs.Prelude.{◌≡◌, ℕ, ◌+◌, ◌-◌, ◌*◌, ◌^◌, ◌<◌, ◌≤◌, true, length, map, min, max, pos, ◌+ℤ◌, ◌-ℤ◌, ◌*ℤ◌, unsigned_abs};
+ghost use Rattle.std.specs.Prelude.{◌≡◌, ℕ, ◌+◌, ◌-◌, ◌*◌, ◌^◌, ◌<◌, ◌≤◌, true, length, map, min, max, pos, ◌+ℤ◌, ◌-ℤ◌, ◌*ℤ◌, unsigned_abs, slice_index_or};
 ghost use Rattle.std.specs.List.{All, count_by};
 ghost use Rattle.semantics.specs.Readings.{from_zero};
 ghost use Rattle.semantics.specs.Quotients.{floor_of, ceil_of};
 ghost use Rattle.semantics.specs.Sums.{total_below};
 ghost use Rattle.segment.specs.Measure.{unit, AreReadings};
 ghost use Rattle.query_cli.specs.Cuts.{opened_row, exact_behind, estimate};
-ghost use Rattle.query_cli.specs.Rows.{IsFlat, closed_by, estimates_of, charges_of, IsSmall, row_charge, IsFirstGreatest};
+ghost use Rattle.query_cli.specs.Rows.{IsFlat, no_seg, closed_by, estimates_of, charges_of, IsSmall, row_charge, IsFirstGreatest};
 
 use poly::{minus, plus};
 use segment::Seg;
@@ -43,12 +43,14 @@ fn level_sum(count: u32, level: i64) -> i128
     i128::from(count) * i128::from(level)
 }
 
-/// The closed row of a segment, which stands at a place.
-pub(crate) fn closed(seg: &Seg, place: u32, from: u32, until: u32) -> CutRow
-    requires { IsFlat seg.now }
-    ensures row { result ≡ closed_by seg.now place from until }
+/// The closed row of the segment at a place.
+pub(crate) fn closed(segs: &[Seg], place: u32, from: u32, until: u32) -> CutRow
+    requires within { place < length segs.now }
+    requires flat { IsFlat (slice_index_or segs.now place no_seg) }
+    ensures row { result ≡ closed_by (slice_index_or segs.now place no_seg) place from until }
     ensures small { IsSmall result }
 {
+    let seg = &segs[place as usize];
     let shared = shared(seg.start, seg.len, from, until);
     CutRow {
         place,

@@ -1,5 +1,5 @@
 -- Laws of the fit: sums of scaled and straightened values, and the choice among candidates.
-use Rattle.std.proofs.Common.{◌≡◌, ℕ, zero, suc, ◌-◌, ◌*◌, ◌/◌, ◌^◌, ◌<◌, ◌≤◌, ℤ, pos, ◌+ℤ◌, ◌-ℤ◌, ◌*ℤ◌, unsigned_abs, List, length, Option, Some, None, Bool, true, false, cond, refl, sym, ap, ap₂, ◌∙◌, arith, zero-add, mul-le-mul_left, mul-le-mul}
+use Rattle.std.proofs.Common.{◌≡◌, ℕ, zero, suc, ◌-◌, ◌*◌, ◌/◌, ◌^◌, ◌<◌, ◌≤◌, ℤ, pos, ◌+ℤ◌, ◌-ℤ◌, ◌*ℤ◌, unsigned_abs, List, length, Option, Some, None, Bool, true, false, cond, nat_le, nat_lt, refl, sym, ap, ap₂, ◌∙◌, arith, zero-add, mul-le-mul_left, mul-le-mul}
 use Rattle.std.proofs.lemmas.Int.{unsigned_abs-mul}
 use Rattle.std.proofs.lemmas.Bool.Decides.{nat_tests}
 use Rattle.semantics.specs.Sums.{total_below, most_below}
@@ -13,8 +13,8 @@ use Rattle.power_sum.specs.Totals.{power_total}
 use Rattle.semantics.proofs.PowerLaws.{pow-2, pow-3}
 use Rattle.segment.specs.declared.curves.Curve.{Curve}
 use Rattle.semantics.specs.Readings.{reading}
-use Rattle.segment.specs.Measure.{unit, coefficient_bound, magnitude_at, spread, is_bounded, IsBounded}
-use Rattle.segment.specs.Fit.{scaled, straightened, moment_at, in_block, kept}
+use Rattle.segment.specs.Measure.{unit, coefficient_bound, magnitude_at, miss, spread, is_bounded, IsBounded, IsTrueOf}
+use Rattle.segment.specs.Fit.{scaled, straightened, moment_at, in_block, kept, better, flat_of, line_of, parabola_of, with_line, with_parabola, best_curve, fit_of}
 
 pub in_block-all : (xs : List ℤ) (n : ℕ) → total_below (in_block xs 0) n ≡ total_below (reading xs) n
 in_block-all xs n = total_below-same (in_block xs 0) (reading xs) n (λ i lt. ap (reading xs) (zero-add i))
@@ -134,3 +134,38 @@ bend-fits s n few h =
 
 pub square_some : (n : ℕ) → 1 ≤ n → 1 ≤ n * n
 square_some n some = let square = mul-le-mul some some in omega (arith, square)
+
+-- ---- the fit is true of its readings
+
+flat-bounded : (xs : List ℤ) → 0 < length xs → IsBounded (flat_of xs) (length xs) (spread xs)
+unfolding flat_of
+flat-bounded xs some = record { constant = omega (arith, flat-le xs some); linear = omega arith; square = omega arith }
+
+cond-bounded : (n d : ℕ) (b : Bool) (p q : Curve) → IsBounded p n d → IsBounded q n d → IsBounded (cond b q p) n d
+cond-bounded n d true p q f g = g
+cond-bounded n d false p q f g = f
+
+better-if : (xs : List ℤ) (n d : ℕ) (p : Curve) (o : Option Curve) → IsBounded p n d → IfSome o (λ q. IsBounded q n d) → IsBounded (better xs p o) n d
+better-if xs n d p None f g = f
+better-if xs n d p (Some q) f g = cond-bounded n d (nat_lt (miss q xs) (miss p xs)) p q f g
+
+better-bounded : (xs : List ℤ) (n d : ℕ) (p q : Curve) → IsBounded p n d → IsBounded (better xs p (kept n d q)) n d
+better-bounded xs n d p q bounded = better-if xs n d p (kept n d q) bounded (kept-if n d q (kept n d q) refl)
+
+line-bounded : (xs : List ℤ) → 0 < length xs → IsBounded (with_line xs) (length xs) (spread xs)
+line-bounded xs some =
+    cond-bounded (length xs) (spread xs) (nat_le 2 (length xs)) (flat_of xs) (better xs (flat_of xs) (kept (length xs) (spread xs) (line_of xs))) (flat-bounded xs some)
+    (better-bounded xs (length xs) (spread xs) (flat_of xs) (line_of xs) (flat-bounded xs some))
+
+parabola-bounded : (xs : List ℤ) → 0 < length xs → IsBounded (with_parabola xs) (length xs) (spread xs)
+parabola-bounded xs some =
+    cond-bounded (length xs) (spread xs) (nat_le 3 (length xs)) (with_line xs) (better xs (with_line xs) (kept (length xs) (spread xs) (parabola_of xs))) (line-bounded xs some)
+    (better-bounded xs (length xs) (spread xs) (with_line xs) (parabola_of xs) (line-bounded xs some))
+
+pub best-bounded : (degree : ℕ) (xs : List ℤ) → 0 < length xs → IsBounded (best_curve degree xs) (length xs) (spread xs)
+best-bounded zero xs some = flat-bounded xs some
+best-bounded (suc zero) xs some = line-bounded xs some
+best-bounded (suc (suc degree)) xs some = parabola-bounded xs some
+
+pub fit-true : (degree start : ℕ) (xs : List ℤ) → 0 < length xs → IsTrueOf xs (fit_of degree start xs)
+fit-true degree start xs some = record { measured = refl; bounded = best-bounded degree xs some }

@@ -1,7 +1,7 @@
 -- Laws of the shape of a tree.
 use Rattle.std.proofs.Common.{◌≡◌, ℕ, zero, suc, ◌+◌, ◌-◌, ◌*◌, ◌/◌, ◌<◌, ◌≤◌, refl, ap, ◌∙◌, sym, arith, le-leb, pow-suc, pow_mono, pow_pos, length, length-append, inl, inr}
 use Rattle.std.proofs.lemmas.Bool.{cases_lt, lt-leb, cond-true, cond-false}
-use Rattle.segment.specs.Shape.{Plan, leaf, fork, room, plan_below, plan, IsSplit, ranges, count, node_count}
+use Rattle.segment.specs.Shape.{Plan, leaf, fork, room, plan_below, plan, IsSplit, ranges, shape, count, node_count}
 
 pub room-suc : (h : ℕ) → room (suc h) ≡ 2 * room h
 room-suc h = omega (arith, pow-suc 2 h)
@@ -89,3 +89,7 @@ count-below (suc h) start len some fits = elim (cases_lt (room h) len) [
 pub count-plan : (start len : ℕ) → 0 < len → count (plan start len) ≡ node_count len
 unfolding plan
 count-plan start len some = omega (arith, count-below len start len some (omega (arith, enough len)))
+
+pub shape-plan : (n : ℕ) → 0 < n → shape n ≡ ranges (plan 0 n)
+shape-plan zero some = absurd (omega arith)
+shape-plan (suc n) some = refl

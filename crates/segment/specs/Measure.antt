@@ -1,5 +1,5 @@
 -- What a segment says of its readings.
-use Rattle.std.specs.Prelude.{◌≡◌, ℕ, ◌*◌, ◌^◌, ◌≤◌, max, ◌&&◌, nat_le, Bool, ℤ, pos, ◌+ℤ◌, ◌-ℤ◌, ◌*ℤ◌, unsigned_abs, List, length}
+use Rattle.std.specs.Prelude.{◌≡◌, ℕ, ◌*◌, ◌^◌, ◌≤◌, max, ◌&&◌, nat_le, Bool, ℤ, pos, ◌+ℤ◌, ◌-ℤ◌, ◌*ℤ◌, unsigned_abs, List, length, take, drop}
 use Rattle.semantics.specs.Readings.{reading}
 use Rattle.semantics.specs.Sums.{sum_below, most_below}
 use Rattle.segment.specs.declared.curves.Curve.{Curve}
@@ -65,6 +65,10 @@ pub record IsTrueOf (xs : List ℤ) (s : Seg) : Type 0 where
   pub measured : s ≡ seg_of s.start (curve_of s) xs
   pub bounded : IsBounded (curve_of s) (length xs) (spread xs)
 
+-- the exact segment of one reading
+abbrev pub unit_seg : ℕ → ℤ → Seg
+unit_seg start x = record { start = start; len = 1; a = pos unit *ℤ x; b = pos 0; c = pos 0; l = 0; d = unsigned_abs x; f = unit * unsigned_abs x }
+
 -- what is known of a segment of a series whose readings have at most the magnitude root_d
 pub record IsSane (s : Seg) (root_d : ℕ) : Type 0 where
   pub bounded : IsBounded (curve_of s) s.len s.d
@@ -72,3 +76,7 @@ pub record IsSane (s : Seg) (root_d : ℕ) : Type 0 where
   pub root : root_d ≤ 10 ^ 9
   pub estimates : s.f ≤ 24 * unit * max 1 s.d
   pub misses : s.l ≤ 25 * unit * max 1 s.d * s.len
+
+-- every true segment of a part of a series is sane for the greatest magnitude of the series
+abbrev pub TrueIsSane : Type 0
+TrueIsSane = (xs : List ℤ) (from len : ℕ) (s : Seg) → AreReadings xs → IsTrueOf (take len (drop from xs)) s → IsSane s (spread xs)

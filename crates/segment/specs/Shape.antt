@@ -38,6 +38,11 @@ abbrev pub ranges : Plan → List Range
 ranges (leaf start len) = record { start = start; len = len } ∷ []
 ranges (fork start len left right) = record { start = start; len = len } ∷ ranges left ++ ranges right
 
+-- the ranges of the tree over n readings; none has no tree
+abbrev pub shape : ℕ → List Range
+shape zero = []
+shape (suc n) = ranges (plan 0 (suc n))
+
 -- how many ranges there are
 abbrev pub count : Plan → ℕ
 count (leaf start len) = 1

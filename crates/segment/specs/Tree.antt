@@ -1,8 +1,8 @@
 -- The value of a tree: segments over segments, and readings below the last ones.
-use Rattle.std.specs.Prelude.{ℕ, ℤ, List, [], ◌∷◌, ◌++◌, length, take, drop, Option, Some, None}
+use Rattle.std.specs.Prelude.{◌≡◌, ℕ, ◌^◌, ◌<◌, ◌≤◌, ◌⊎◌, ℤ, List, [], ◌∷◌, ◌++◌, length, take, drop, Option, Some, None}
 use Rattle.segment.specs.declared.segments.Seg.{Seg}
 use Rattle.segment.specs.Fit.{fit_of}
-use Rattle.segment.specs.Measure.{IsTrueOf}
+use Rattle.segment.specs.Measure.{AreReadings, IsTrueOf}
 use Rattle.segment.specs.Shape.{Plan, leaf, fork, plan}
 
 pub data SegTree : Type 0 where
@@ -29,6 +29,11 @@ abbrev pub plan_of : SegTree → Plan
 plan_of (tip g xs) = leaf g.start g.len
 plan_of (node g left right) = fork g.start g.len (plan_of left) (plan_of right)
 
+-- the tree itself, or a part of it
+abbrev pub IsPartOf : SegTree → SegTree → Type 0
+IsPartOf part (tip g xs) = part ≡ tip g xs
+IsPartOf part (node g left right) = (part ≡ node g left right) ⊎ (IsPartOf part left ⊎ IsPartOf part right)
+
 -- each segment is true of the readings below it
 abbrev pub AllTrue : SegTree → Type 0
 AllTrue (tip g xs) = IsTrueOf xs g
@@ -45,11 +50,16 @@ fits degree (leaf start len) xs = tip (fit_of degree start xs) xs
 fits degree (fork start len left right) xs =
     node (fit_of degree start xs) (fits degree left (take (width left) xs)) (fits degree right (drop (width left) xs))
 
--- the fitted tree over the readings of a series, where it has any
+-- the fitted tree over some readings of a series
 abbrev pub fitted : ℕ → List ℤ → SegTree
 fitted degree xs = fits degree (plan 0 (length xs)) xs
 
--- the readings of a series by its tree; one without readings has no tree
+-- a series has a tree where it has readings
+abbrev pub fitted_series : ℕ → List ℤ → Option SegTree
+fitted_series degree [] = None
+fitted_series degree (x ∷ xs) = Some (fitted degree (x ∷ xs))
+
+-- the readings of a series by its tree
 abbrev pub all_readings : Option SegTree → List ℤ
 all_readings None = []
 all_readings (Some t) = readings_of t
@@ -58,3 +68,12 @@ all_readings (Some t) = readings_of t
 abbrev pub all_segs : Option SegTree → List Seg
 all_segs None = []
 all_segs (Some t) = segs_of t
+
+-- what every tree over n readings of a series keeps
+pub record IsTreeOver (n : ℕ) (t : SegTree) : Type 0 where
+  pub some : 0 < n
+  pub few : n ≤ 2 ^ 20
+  pub shaped : plan_of t ≡ plan 0 n
+  pub long : length (readings_of t) ≡ n
+  pub small : AreReadings (readings_of t)
+  pub all_true : AllTrue t

@@ -4,11 +4,15 @@
 mod curves;
 mod fitting;
 mod measures;
+mod node_access;
+mod sanity;
 mod segments;
 mod shape;
 
 pub use curves::Curve;
 pub use fitting::fit;
-pub use measures::measure;
+pub use measures::{measure, unit};
+pub use node_access::{Children, NodeErr, Nodes};
+pub use sanity::{is_sane, true_is_sane};
 pub use segments::{Measures, Seg};
 pub use shape::split;

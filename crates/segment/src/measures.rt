@@ -1,7 +1,7 @@
-ghost use Rattle.std.specs.Prelude.{◌≡◌, ◌+◌, ◌*◌, ◌^◌, ◌<◌, ◌≤◌, pos, ◌*ℤ◌, ◌+ℤ◌, ◌-ℤ◌, length, unsigned_abs};
-ghost use Rattle.segment.specs.Measure.{unit, miss, spread, reach, AreReadings, IsBounded};
+ghost use Rattle.std.specs.Prelude.{◌≡◌, ◌+◌, ◌*◌, ◌^◌, ◌<◌, ◌≤◌, pos, ◌*ℤ◌, ◌+ℤ◌, ◌-ℤ◌, length, unsigned_abs, [], ◌∷◌};
+ghost use Rattle.segment.specs.Measure.{unit, miss, spread, reach, unit_seg, AreReadings, IsBounded, IsTrueOf};
 
-use crate::{Curve, Measures};
+use crate::{Curve, Measures, Seg};
 
 /// The measures of the curve `a + b * i + c * i ^ 2` over the readings.
 pub fn measure(xs: &[i32], a: i64, b: i64, c: i64) -> Measures
@@ -18,6 +18,24 @@ pub fn measure(xs: &[i32], a: i64, b: i64, c: i64) -> Measures
         l: miss_of(xs, &curve),
         d: spread_of(xs),
         f: reach_of(&curve, xs.len()),
+    }
+}
+
+/// The exact segment of one reading.
+pub fn unit(x: i32, start: u32) -> Seg
+    requires { unsigned_abs x ≤ 10 ^ 9 }
+    ensures seg { result ≡ unit_seg start x }
+    ensures true_of { IsTrueOf (x ∷ []) result }
+{
+    Seg {
+        start,
+        len: 1,
+        a: scaled(x),
+        b: 0,
+        c: 0,
+        l: 0,
+        d: u64::from(x.unsigned_abs()),
+        f: scaled(x).unsigned_abs(),
     }
 }
 

@@ -1,0 +1,44 @@
+-- The nodes of an arena that trees reach.
+use Rattle.std.specs.Prelude.{◌≡◌, ℕ, List, Option, Some, None, map, option_map}
+use Rattle.std.specs.List.{All}
+use Rattle.segment.specs.declared.segments.Seg.{Seg}
+use Rattle.segment.specs.Nodes.{Forest, Place, tree_in}
+use Rattle.segment.specs.Shape.{Range, plan}
+use Rattle.segment.specs.Tree.{SegTree, IsPartOf, plan_of, root_of}
+use Rattle.seg_tree.specs.declared.nodes.Node.{Node}
+use Rattle.seg_tree.specs.declared.arena.Tree.{Tree}
+use Rattle.seg_tree.specs.Linked.{IsLinked, tree_at}
+use Rattle.seg_tree.specs.Trees.{IsTreeOf, value_of}
+
+-- the nodes of an arena, and the trees of the series
+pub record Reached : Type 0 where
+  pub nodes : List Node
+  pub trees : List Tree
+
+abbrev pub forest_of : Reached → Forest
+forest_of s = map (value_of s.nodes) s.trees
+
+abbrev pub lengths_of : Reached → List ℕ
+lengths_of s = map (λ t. t.n) s.trees
+
+-- all roots are known
+abbrev pub roots_of : Reached → List (Option Seg)
+roots_of s = map (option_map root_of) (forest_of s)
+
+-- each tree is one of the arena, and the trees are these
+pub record Means (s : Reached) (forest : Forest) : Type 0 where
+  pub trees : All (IsTreeOf s.nodes) s.trees
+  pub forest_is : forest ≡ forest_of s
+
+-- the node at a place of the arena is that of a range of the tree
+pub record StandsIn (nodes : List Node) (t : SegTree) (id : ℕ) (r : Range) : Type 0 where
+  pub linked : IsLinked nodes id (plan r.start r.len)
+  pub shaped : plan_of (tree_at nodes id (plan r.start r.len)) ≡ plan r.start r.len
+  pub part : IsPartOf (tree_at nodes id (plan r.start r.len)) t
+
+-- a place of the arena stands for the node at it, in each series whose tree has it
+pub record Stands (s : Reached) (id : ℕ) (p : Place) : Type 0 where
+  pub trees : All (IsTreeOf s.nodes) s.trees
+  pub tree : SegTree
+  pub found : tree_in (forest_of s) p.series ≡ Some tree
+  pub within : StandsIn s.nodes tree id p.range

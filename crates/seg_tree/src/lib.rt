@@ -1,0 +1,10 @@
+//! Trees of segments as linked nodes of an arena.
+#![tactic(auto)]
+
+mod arena;
+mod building;
+mod nodes;
+mod reading;
+
+pub use arena::{Arena, Tree, TreeErr};
+pub use nodes::{Below, Node};

@@ -3,7 +3,7 @@ use Rattle.std.proofs.Common.{◌≡◌, ℕ, zero, suc, ◌+◌, ◌-◌, ◌*�
 use Rattle.std.specs.List.{Contains, All}
 use Rattle.std.proofs.lemmas.Bool.{cases_lt, eqb-true, eqb-false, cond_both, cond-true, cond-false}
 use Rattle.std.proofs.lemmas.List.Elements.{All-nil, All-cons, All-head, All-tail, All-append, All-weaker}
-use Rattle.segment.specs.Shape.{Range, plan, IsSplit, ranges, count}
+use Rattle.segment.specs.Shape.{Range, plan, ranges, shape, count}
 use Rattle.segment.proofs.ShapeLaws.{count-leaf, count-fork}
 use Rattle.query_cli.specs.Cuts.{Row, closed_row, opened_row, range_of, charge, charges, width, IsPartition, IsNode, IsCut}
 use Rattle.query_cli.specs.Descents.{root_cut, rows_below, most_charge, expand_first, next_cut, cut_after, IsLast, EachBudgetIsMet}
@@ -33,7 +33,7 @@ expand_partition xs from until most start end (row ∷ cut) (begins, some, rest)
 
 -- all that is below a row is below the root
 record IsInside (n : ℕ) (row : Row) : Type 0 where
-  ranges : (r : Range) → Contains (ranges (plan row.start row.len)) r → Contains (ranges (plan 0 n)) r
+  ranges : (r : Range) → Contains (ranges (plan row.start row.len)) r → Contains (shape n) r
   small : row.opened ≡ true → row.len ≤ 16
 
 node_from : (n : ℕ) (row : Row) → IsInside n row → IsNode n row

@@ -12,8 +12,8 @@ use Rattle.segment.specs.declared.segments.Seg.{Seg}
 use Rattle.segment.specs.Shape.{plan, IsSplit}
 use Rattle.query_cli.specs.declared.cut.CutRow.{CutRow}
 use Rattle.query_cli.specs.Cuts.{Row, closed_row, opened_row, charge, charges, estimate, estimates, low_end, high_end, width, IsPartition, IsCut, is_opened, opened_in}
-use Rattle.query_cli.specs.Descents.{root_cut, rows_below, most_charge, expand_first, next_cut, cut_after, IsLast}
-use Rattle.query_cli.specs.Rows.{shown, cut_of, no_row, row_charge, Holds, IsSmall, IsFirstGreatest, estimates_of, charges_of, row_at, expanded}
+use Rattle.query_cli.specs.Descents.{root_cut, rows_below, row_at, expanded, most_charge, expand_first, next_cut, cut_after, IsLast}
+use Rattle.query_cli.specs.Rows.{shown, cut_of, no_row, row_charge, IsRowOf, IsSmall, IsFirstGreatest, estimates_of, charges_of}
 use Rattle.query_cli.proofs.NodeLaws.{below-leaf, below-fork}
 use Rattle.query_cli.proofs.DescentLaws.{next_of_wide, works, next_works, after_is_cut}
 use Rattle.query_cli.proofs.Containment.{width-exact}
@@ -45,12 +45,12 @@ most_charge-at xs from until (row ∷ cut) (suc at) within = omega (arith, most_
 pub row_at-cut_of : (rows : List CutRow) (k : ℕ) → k < length rows → row_at (cut_of rows) k ≡ shown (get_or rows k no_row)
 row_at-cut_of rows k lt = get_or-map shown rows k no_row (opened_row 0 0) lt
 
-charge-cut_of : (xs : List ℤ) (segs : List Seg) (from until : ℕ) (rows : List CutRow) (k : ℕ) → All (Holds xs segs from until) rows → k < length rows
+charge-cut_of : (xs : List ℤ) (segs : List Seg) (from until : ℕ) (rows : List CutRow) (k : ℕ) → All (IsRowOf xs segs from until) rows → k < length rows
     → charge xs from until (row_at (cut_of rows) k) ≡ get_or (map row_charge rows) k 0
 charge-cut_of xs segs from until rows k holds lt = ap (charge xs from until) (row_at-cut_of rows k lt) ∙ sym (holds k no_row lt).charged ∙ sym (charge_at rows k lt)
 
 -- the first row of the greatest charge is the one that the next cut replaces
-chosen : (xs : List ℤ) (segs : List Seg) (from until budget at : ℕ) (rows : List CutRow) → All (Holds xs segs from until) rows → budget < width xs from until (cut_of rows) → IsFirstGreatest (map row_charge rows) at
+chosen : (xs : List ℤ) (segs : List Seg) (from until budget at : ℕ) (rows : List CutRow) → All (IsRowOf xs segs from until) rows → budget < width xs from until (cut_of rows) → IsFirstGreatest (map row_charge rows) at
     → next_cut xs from until (cut_of rows) ≡ expanded (cut_of rows) at
 chosen xs segs from until budget at rows holds wide best =
     let n : length (map row_charge rows) ≡ length rows = length-map rows row_charge in
@@ -66,8 +66,8 @@ chosen xs segs from until budget at rows holds wide best =
       (λ k lt. omega (arith, same k (omega arith), same at within, best.first k lt, greatest, reached))
 
 -- a row that was read is one of the rows
-pub held : (xs : List ℤ) (segs : List Seg) (from until at : ℕ) (rows : List CutRow) (row : CutRow) → All (Holds xs segs from until) rows → at < length rows → row ≡ get_or rows at row → Holds xs segs from until row
-held xs segs from until at rows row holds within is = subst (Holds xs segs from until) (sym is) (holds at row within)
+pub held : (xs : List ℤ) (segs : List Seg) (from until at : ℕ) (rows : List CutRow) (row : CutRow) → All (IsRowOf xs segs from until) rows → at < length rows → row ≡ get_or rows at row → IsRowOf xs segs from until row
+held xs segs from until at rows row holds within is = subst (IsRowOf xs segs from until) (sym is) (holds at row within)
 
 pub read_is : (rows : List CutRow) (at : ℕ) (row : CutRow) → at < length rows → row ≡ get_or rows at row → get_or rows at no_row ≡ row
 read_is rows at row within is = get_or_default rows at no_row row within ∙ sym is
@@ -107,15 +107,15 @@ All-split {X} P xs at left right all l r =
 
 -- ---- what the rows give together
 
-estimates-cut_of : (xs : List ℤ) (segs : List Seg) (from until : ℕ) (rows : List CutRow) → All (Holds xs segs from until) rows → estimates_of rows ≡ estimates xs from until (cut_of rows)
+estimates-cut_of : (xs : List ℤ) (segs : List Seg) (from until : ℕ) (rows : List CutRow) → All (IsRowOf xs segs from until) rows → estimates_of rows ≡ estimates xs from until (cut_of rows)
 estimates-cut_of xs segs from until [] holds = refl
 estimates-cut_of xs segs from until (row ∷ rows) holds =
-    ap₂ ◌+ℤ◌ (All-head (Holds xs segs from until) row rows holds).estimated (estimates-cut_of xs segs from until rows (All-tail (Holds xs segs from until) row rows holds))
+    ap₂ ◌+ℤ◌ (All-head (IsRowOf xs segs from until) row rows holds).estimated (estimates-cut_of xs segs from until rows (All-tail (IsRowOf xs segs from until) row rows holds))
 
-charges-cut_of : (xs : List ℤ) (segs : List Seg) (from until : ℕ) (rows : List CutRow) → All (Holds xs segs from until) rows → charges_of rows ≡ charges xs from until (cut_of rows)
+charges-cut_of : (xs : List ℤ) (segs : List Seg) (from until : ℕ) (rows : List CutRow) → All (IsRowOf xs segs from until) rows → charges_of rows ≡ charges xs from until (cut_of rows)
 charges-cut_of xs segs from until [] holds = refl
 charges-cut_of xs segs from until (row ∷ rows) holds =
-    ap₂ ◌+◌ (All-head (Holds xs segs from until) row rows holds).charged (charges-cut_of xs segs from until rows (All-tail (Holds xs segs from until) row rows holds))
+    ap₂ ◌+◌ (All-head (IsRowOf xs segs from until) row rows holds).charged (charges-cut_of xs segs from until rows (All-tail (IsRowOf xs segs from until) row rows holds))
 
 pub opened_in-cut_of : (rows : List CutRow) → count_by (λ (row : CutRow). row.opened) rows ≡ opened_in (cut_of rows)
 opened_in-cut_of [] = refl
@@ -133,13 +133,13 @@ pub record Reached (xs : List ℤ) (segs : List Seg) (from until budget : ℕ) (
   pub steps : ℕ
   pub cut : cut_of rows ≡ cut_after xs from until steps
   pub before : (k : ℕ) → k < steps → budget < width xs from until (cut_after xs from until k)
-  pub holds : All (Holds xs segs from until) rows
+  pub holds : All (IsRowOf xs segs from until) rows
 
-pub root_reached : (xs : List ℤ) (segs : List Seg) (from until budget : ℕ) (rows : List CutRow) → cut_of rows ≡ root_cut (length xs) → All (Holds xs segs from until) rows → Reached xs segs from until budget rows
+pub root_reached : (xs : List ℤ) (segs : List Seg) (from until budget : ℕ) (rows : List CutRow) → cut_of rows ≡ root_cut (length xs) → All (IsRowOf xs segs from until) rows → Reached xs segs from until budget rows
 root_reached xs segs from until budget rows cut holds = record { steps = 0; cut = cut; before = λ k lt. absurd (omega arith); holds = holds }
 
 pub next_reached : (xs : List ℤ) (segs : List Seg) (from until budget at : ℕ) (rows seen new : List CutRow) → Reached xs segs from until budget rows → budget < width xs from until (cut_of rows) → seen ≡ rows → IsFirstGreatest (map row_charge seen) at
-    → cut_of new ≡ expanded (cut_of rows) at → All (Holds xs segs from until) new → Reached xs segs from until budget new
+    → cut_of new ≡ expanded (cut_of rows) at → All (IsRowOf xs segs from until) new → Reached xs segs from until budget new
 next_reached xs segs from until budget at rows seen new reached wide is best cut holds = record {
   steps = suc reached.steps;
   cut = cut ∙ sym (chosen xs segs from until budget at rows reached.holds wide (subst (λ rows. IsFirstGreatest (map row_charge rows) at) is best)) ∙ ap (next_cut xs from until) reached.cut;
@@ -147,7 +147,7 @@ next_reached xs segs from until budget at rows seen new reached wide is best cut
   holds = holds;
 }
 
-pub next_work : (xs : List ℤ) (segs : List Seg) (from until budget at : ℕ) (rows seen new : List CutRow) → All (Holds xs segs from until) rows → budget < width xs from until (cut_of rows) → seen ≡ rows → IsFirstGreatest (map row_charge seen) at
+pub next_work : (xs : List ℤ) (segs : List Seg) (from until budget at : ℕ) (rows seen new : List CutRow) → All (IsRowOf xs segs from until) rows → budget < width xs from until (cut_of rows) → seen ≡ rows → IsFirstGreatest (map row_charge seen) at
     → cut_of new ≡ expanded (cut_of rows) at → works (cut_of new) < works (cut_of rows)
 next_work xs segs from until budget at rows seen new holds wide is best cut =
     let same : cut_of new ≡ next_cut xs from until (cut_of rows) = cut ∙ sym (chosen xs segs from until budget at rows holds wide (subst (λ rows. IsFirstGreatest (map row_charge rows) at) is best)) in
@@ -169,14 +169,14 @@ pub wide_has_row : (xs : List ℤ) (from until budget : ℕ) (rows : List CutRow
 wide_has_row xs from until budget [] wide = absurd (omega (arith, width-exact xs from until [] refl))
 wide_has_row xs from until budget (row ∷ rows) wide = omega arith
 
-pub all_small : (xs : List ℤ) (segs : List Seg) (from until : ℕ) (rows : List CutRow) → All (Holds xs segs from until) rows → All IsSmall rows
-all_small xs segs from until rows holds = All-weaker (Holds xs segs from until) IsSmall (λ row h. h.small) rows holds
+pub all_small : (xs : List ℤ) (segs : List Seg) (from until : ℕ) (rows : List CutRow) → All (IsRowOf xs segs from until) rows → All IsSmall rows
+all_small xs segs from until rows holds = All-weaker (IsRowOf xs segs from until) IsSmall (λ row h. h.small) rows holds
 
 -- the interval of the rows is that of their cut
-pub low_end-cut_of : (xs : List ℤ) (segs : List Seg) (from until : ℕ) (rows seen : List CutRow) → All (Holds xs segs from until) rows → seen ≡ rows → ceil_of (estimates_of seen -ℤ pos (charges_of seen)) unit ≡ low_end xs from until (cut_of rows)
+pub low_end-cut_of : (xs : List ℤ) (segs : List Seg) (from until : ℕ) (rows seen : List CutRow) → All (IsRowOf xs segs from until) rows → seen ≡ rows → ceil_of (estimates_of seen -ℤ pos (charges_of seen)) unit ≡ low_end xs from until (cut_of rows)
 low_end-cut_of xs segs from until rows seen holds is = ap (λ rows. ceil_of (estimates_of rows -ℤ pos (charges_of rows)) unit) is ∙ ap₂ (λ z n. ceil_of (z -ℤ pos n) unit) (estimates-cut_of xs segs from until rows holds) (charges-cut_of xs segs from until rows holds)
 
-pub high_end-cut_of : (xs : List ℤ) (segs : List Seg) (from until : ℕ) (rows seen : List CutRow) → All (Holds xs segs from until) rows → seen ≡ rows → floor_of (estimates_of seen +ℤ pos (charges_of seen)) unit ≡ high_end xs from until (cut_of rows)
+pub high_end-cut_of : (xs : List ℤ) (segs : List Seg) (from until : ℕ) (rows seen : List CutRow) → All (IsRowOf xs segs from until) rows → seen ≡ rows → floor_of (estimates_of seen +ℤ pos (charges_of seen)) unit ≡ high_end xs from until (cut_of rows)
 high_end-cut_of xs segs from until rows seen holds is = ap (λ rows. floor_of (estimates_of rows +ℤ pos (charges_of rows)) unit) is ∙ ap₂ (λ z n. floor_of (z +ℤ pos n) unit) (estimates-cut_of xs segs from until rows holds) (charges-cut_of xs segs from until rows holds)
 
 pub root_cut-some : (n : ℕ) → 0 < n → root_cut n ≡ closed_row 0 n ∷ []

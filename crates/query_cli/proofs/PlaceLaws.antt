@@ -16,7 +16,7 @@ use Rattle.segment.proofs.Bounds.{spread-le}
 use Rattle.segment.proofs.FitLaws.{flat-le}
 use Rattle.query_cli.specs.declared.cut.CutRow.{CutRow}
 use Rattle.query_cli.specs.Cuts.{Row, closed_row, opened_row, first_shared, shared, segment_of, estimate_behind, estimate, charge}
-use Rattle.query_cli.specs.Rows.{shown, fits_of, HasTree, IsFlat, no_seg, closed_by, IsSmall, Holds}
+use Rattle.query_cli.specs.Rows.{shown, fits_of, HasTree, IsFlat, no_seg, closed_by, IsSmall, IsRowOf}
 use Rattle.query_cli.proofs.NodeLaws.{has_split}
 use Rattle.query_cli.proofs.Containment.{length-part, reading-part}
 
@@ -175,12 +175,12 @@ closed_is xs from until place start len inside =
 -- the closed row of the segment at a place
 pub closed_holds : (xs : List ℤ) (segs : List Seg) (seg : Seg) (from until place start len : ℕ) → 0 < len → start + len ≤ length xs → HasTree xs segs place start len
     → seg ≡ fit_over 0 xs record { start = start; len = len } → IsSmall (closed_by seg place from until)
-    → Holds xs segs from until (closed_by seg place from until) × (shown (closed_by seg place from until) ≡ closed_row start len)
+    → IsRowOf xs segs from until (closed_by seg place from until) × (shown (closed_by seg place from until) ≡ closed_row start len)
 closed_holds xs segs seg from until place start len some inside tree is small =
     let e : closed_by seg place from until ≡ row_for xs from until place start len = ap (λ g. closed_by g place from until) is ∙ closed_is xs from until place start len inside in
-    let holds : Holds xs segs from until (row_for xs from until place start len) =
+    let holds : IsRowOf xs segs from until (row_for xs from until place start len) =
         record { some = some; inside = inside; tree = tree; estimated = refl; charged = refl; small = subst IsSmall e small } in
-    (subst (Holds xs segs from until) (sym e) holds, ap shown e)
+    (subst (IsRowOf xs segs from until) (sym e) holds, ap shown e)
 
 -- what is known of the children of a row that is split at s, where the right one stands at a place q
 pub record Children (xs : List ℤ) (segs : List Seg) (from until : ℕ) (row : CutRow) (s q : ℕ) : Type 0 where
@@ -188,17 +188,17 @@ pub record Children (xs : List ℤ) (segs : List Seg) (from until : ℕ) (row : 
   pub right_within : q < length segs
   pub left_flat : IsFlat (get_or segs (row.place + 1) no_seg)
   pub right_flat : IsFlat (get_or segs q no_seg)
-  pub left : (made : CutRow) → made ≡ closed_by (get_or segs (row.place + 1) no_seg) (row.place + 1) from until → IsSmall made → Holds xs segs from until made × (shown made ≡ closed_row row.start s)
-  pub right : (made : CutRow) → made ≡ closed_by (get_or segs q no_seg) q from until → IsSmall made → Holds xs segs from until made × (shown made ≡ closed_row (row.start + s) (row.len - s))
+  pub left : (made : CutRow) → made ≡ closed_by (get_or segs (row.place + 1) no_seg) (row.place + 1) from until → IsSmall made → IsRowOf xs segs from until made × (shown made ≡ closed_row row.start s)
+  pub right : (made : CutRow) → made ≡ closed_by (get_or segs q no_seg) q from until → IsSmall made → IsRowOf xs segs from until made × (shown made ≡ closed_row (row.start + s) (row.len - s))
 
 -- the closed row that was made of the segment at a place
 made_holds : (xs : List ℤ) (segs : List Seg) (from until place start len : ℕ) (made : CutRow) → 0 < len → start + len ≤ length xs → HasTree xs segs place start len
-    → made ≡ closed_by (get_or segs place no_seg) place from until → IsSmall made → Holds xs segs from until made × (shown made ≡ closed_row start len)
+    → made ≡ closed_by (get_or segs place no_seg) place from until → IsSmall made → IsRowOf xs segs from until made × (shown made ≡ closed_row start len)
 made_holds xs segs from until place start len made some inside tree is small =
     let holds = closed_holds xs segs (get_or segs place no_seg) from until place start len some inside tree (stands_at xs segs place start len tree).is (subst IsSmall is small) in
-    subst (λ row. Holds xs segs from until row × (shown row ≡ closed_row start len)) (sym is) holds
+    subst (λ row. IsRowOf xs segs from until row × (shown row ≡ closed_row start len)) (sym is) holds
 
-pub children_of : (xs : List ℤ) (segs : List Seg) (from until : ℕ) (row : CutRow) (s q : ℕ) → length xs ≤ 2 ^ 20 → AreReadings xs → Holds xs segs from until row → (16 < row.len) × IsSplit row.len s → q ≡ row.place + 2 * ((s + 15) / 16)
+pub children_of : (xs : List ℤ) (segs : List Seg) (from until : ℕ) (row : CutRow) (s q : ℕ) → length xs ≤ 2 ^ 20 → AreReadings xs → IsRowOf xs segs from until row → (16 < row.len) × IsSplit row.len s → q ≡ row.place + 2 * ((s + 15) / 16)
     → Children xs segs from until row s q
 children_of xs segs from until row s q few small holds (large, split) at =
     let inside = holds.inside in
@@ -219,7 +219,7 @@ children_of xs segs from until row s q few small holds (large, split) at =
 
 -- the closed row of the root
 pub root_of : (xs : List ℤ) (segs : List Seg) (from until : ℕ) (made : CutRow) → 0 < length xs → segs ≡ fits_of xs → made ≡ closed_by (get_or segs 0 no_seg) 0 from until → IsSmall made
-    → Holds xs segs from until made × (shown made ≡ closed_row 0 (length xs))
+    → IsRowOf xs segs from until made × (shown made ≡ closed_row 0 (length xs))
 root_of xs segs from until made some fitted is small = made_holds xs segs from until 0 0 (length xs) made some (omega arith) (root_tree xs segs some fitted) is small
 
 pub record RootStands (segs : List Seg) : Type 0 where

@@ -8,7 +8,7 @@ use Rattle.semantics.specs.Sums.{total_below}
 use Rattle.semantics.specs.Quotients.{floor_of, ceil_of}
 use Rattle.segment.specs.declared.segments.Seg.{Seg}
 use Rattle.segment.specs.Measure.{unit, estimate_at, curve_of}
-use Rattle.segment.specs.Shape.{Range, plan, ranges}
+use Rattle.segment.specs.Shape.{Range, shape}
 use Rattle.segment.specs.Fit.{fit_over}
 
 -- a node of the tree that stands in a cut; a leaf may be opened, and gives its readings then
@@ -83,7 +83,7 @@ IsPartition start end (row ∷ cut) = (row.start ≡ start) × (0 < row.len) × 
 
 -- a row is a node of the tree over n readings, and only a leaf is opened
 pub record IsNode (n : ℕ) (row : Row) : Type 0 where
-  pub range : Contains (ranges (plan 0 n)) (range_of row)
+  pub range : Contains (shape n) (range_of row)
   pub small : row.opened ≡ true → row.len ≤ 16
 
 -- a cut of the tree over n readings

@@ -1,6 +1,6 @@
 -- The descent: from the cut of the root, the row that is charged most is replaced by what is below it, until the
 -- interval is no wider than a budget.
-use Rattle.std.specs.Prelude.{◌≡◌, ℕ, zero, suc, ◌+◌, ◌≤◌, ◌<◌, ◌==◌, List, [], ◌∷◌, ◌++◌, length, max, if◌then◌else◌, ℤ}
+use Rattle.std.specs.Prelude.{◌≡◌, ℕ, zero, suc, ◌+◌, ◌≤◌, ◌<◌, ◌==◌, List, [], ◌∷◌, ◌++◌, length, take, drop, get_or, max, if◌then◌else◌, ℤ}
 use Rattle.segment.specs.Shape.{Plan, leaf, fork, plan}
 use Rattle.query_cli.specs.declared.descent.Answer.{Answer}
 use Rattle.query_cli.specs.Cuts.{Row, closed_row, opened_row, charge, low_end, high_end, width, IsCut, opened_in}
@@ -19,6 +19,13 @@ top_row (fork start len left right) = closed_row start len
 abbrev pub rows_below : Plan → List Row
 rows_below (leaf start len) = opened_row start len ∷ []
 rows_below (fork start len left right) = top_row left ∷ top_row right ∷ []
+
+abbrev pub row_at : List Row → ℕ → Row
+row_at cut at = get_or cut at (opened_row 0 0)
+
+-- the cut with one row replaced by what is below it
+abbrev pub expanded : List Row → ℕ → List Row
+expanded cut at = take at cut ++ (rows_below (plan (row_at cut at).start (row_at cut at).len) ++ drop (suc at) cut)
 
 -- the greatest charge
 abbrev pub most_charge : List ℤ → ℕ → ℕ → List Row → ℕ

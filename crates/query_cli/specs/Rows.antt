@@ -1,11 +1,10 @@
 -- The rows of a cut as the code keeps them: each with the place of its segment, and with what it gives to the sum.
-use Rattle.std.specs.Prelude.{◌≡◌, ℕ, ◌+◌, ◌-◌, ◌^◌, ◌<◌, ◌≤◌, List, [], ◌∷◌, ◌++◌, suc, length, take, drop, map, min, max, nat_lt, if◌then◌else◌, false, get_or, unsigned_abs, ℤ, pos, ◌+ℤ◌, ◌*ℤ◌, slice_index}
+use Rattle.std.specs.Prelude.{◌≡◌, ℕ, ◌+◌, ◌-◌, ◌^◌, ◌<◌, ◌≤◌, List, [], ◌∷◌, length, take, drop, map, min, max, nat_lt, if◌then◌else◌, false, get_or, unsigned_abs, ℤ, pos, ◌+ℤ◌, ◌*ℤ◌, slice_index}
 use Rattle.segment.specs.declared.segments.Seg.{Seg}
-use Rattle.segment.specs.Shape.{plan, ranges, count}
+use Rattle.segment.specs.Shape.{plan, ranges, shape, count}
 use Rattle.segment.specs.Fit.{fit_over}
 use Rattle.query_cli.specs.declared.cut.CutRow.{CutRow}
-use Rattle.query_cli.specs.Cuts.{Row, opened_row, estimate, charge}
-use Rattle.query_cli.specs.Descents.{rows_below}
+use Rattle.query_cli.specs.Cuts.{Row, estimate, charge}
 
 abbrev pub shown : CutRow → Row
 shown row = record { start = row.start; len = row.len; opened = row.opened }
@@ -15,8 +14,7 @@ cut_of rows = map shown rows
 
 -- the segments of the tree over the readings, in preorder
 abbrev pub fits_of : List ℤ → List Seg
-fits_of [] = []
-fits_of (x ∷ xs) = map (fit_over 0 (x ∷ xs)) (ranges (plan 0 (length (x ∷ xs))))
+fits_of xs = map (fit_over 0 xs) (shape (length xs))
 
 -- from a place on stand the segments of the node over len readings from start, and of those below it
 abbrev pub HasTree : List ℤ → List Seg → ℕ → ℕ → ℕ → Type 0
@@ -45,7 +43,7 @@ pub record IsSmall (row : CutRow) : Type 0 where
   pub charge : row.charge ≤ 2 ^ 72
 
 -- a row is a node of the tree, and gives what that node gives
-pub record Holds (xs : List ℤ) (segs : List Seg) (from until : ℕ) (row : CutRow) : Type 0 where
+pub record IsRowOf (xs : List ℤ) (segs : List Seg) (from until : ℕ) (row : CutRow) : Type 0 where
   pub some : 0 < row.len
   pub inside : row.start + row.len ≤ length xs
   pub tree : HasTree xs segs row.place row.start row.len
@@ -74,10 +72,3 @@ pub record IsFirstGreatest (charges : List ℕ) (at : ℕ) : Type 0 where
   pub within : at < length charges
   pub greatest : (k : ℕ) → k < length charges → slice_index charges k ≤ slice_index charges at
   pub first : (k : ℕ) → k < at → slice_index charges k < slice_index charges at
-
-abbrev pub row_at : List Row → ℕ → Row
-row_at cut at = get_or cut at (opened_row 0 0)
-
--- the cut with the row at a place replaced by what is below it
-abbrev pub expanded : List Row → ℕ → List Row
-expanded cut at = take at cut ++ (rows_below (plan (row_at cut at).start (row_at cut at).len) ++ drop (suc at) cut)

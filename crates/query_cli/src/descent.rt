@@ -4,8 +4,8 @@ ghost use Rattle.std.specs.Prelude.{◌≡◌, ℕ, ◌+◌, ◌-◌, ◌*◌, �
 ghost use Rattle.std.specs.List.{All, count_by};
 ghost use Rattle.semantics.specs.Readings.{plain_sum, from_zero};
 ghost use Rattle.segment.specs.Measure.{AreReadings};
-ghost use Rattle.query_cli.specs.Descents.{root_cut, EachBudgetIsMet, Tells};
-ghost use Rattle.query_cli.specs.Rows.{cut_of, fits_of, Holds, expanded};
+ghost use Rattle.query_cli.specs.Descents.{root_cut, expanded, EachBudgetIsMet, Tells};
+ghost use Rattle.query_cli.specs.Rows.{cut_of, fits_of, IsRowOf};
 
 use crate::cut::{CutRow, Interval, closed, heaviest, interval_of, opened_in};
 use segment::{Seg, split};
@@ -36,9 +36,9 @@ fn expand(
     requires until { until ≤ length xs.now }
     requires segs { length segs.now ≤ 2 ^ 18 }
     requires at { at < length rows.old.items }
-    requires holds { All (Holds xs.now segs.now from until) rows.old.items }
+    requires holds { All (IsRowOf xs.now segs.now from until) rows.old.items }
     ensures cut { OnOk result (cut_of rows.new.items ≡ expanded (cut_of rows.old.items) at) }
-    ensures holds { OnOk result (All (Holds xs.now segs.now from until) rows.new.items) }
+    ensures holds { OnOk result (All (IsRowOf xs.now segs.now from until) rows.new.items) }
 {
     let row = rows[at];
     match split(row.len) {
@@ -64,7 +64,7 @@ fn root_rows(
     requires small { AreReadings xs.now }
     requires fitted { segs.now ≡ fits_of xs.now }
     ensures cut { IfOk result (λ rows. cut_of rows.items ≡ root_cut (length xs.now)) }
-    ensures holds { IfOk result (λ rows. All (Holds xs.now segs.now from until) rows.items) }
+    ensures holds { IfOk result (λ rows. All (IsRowOf xs.now segs.now from until) rows.items) }
 {
     let mut rows = Vec::new(alloc);
     if xs.is_empty() {

@@ -1,5 +1,6 @@
 use Rattle.std.proofs.Common.{◌≡◌, ◌+◌, ◌*◌, ◌^◌, ◌<◌, ◌≤◌, length, refl, ap, ◌∙◌, arith}
-use Rattle.query_cli.specs.Rows.{cut_of, shown, Holds, expanded}
+use Rattle.query_cli.specs.Descents.{expanded}
+use Rattle.query_cli.specs.Rows.{cut_of, shown, IsRowOf}
 use Rattle.query_cli.proofs.PlaceLaws.{children_of}
 use Rattle.query_cli.proofs.ExpandLaws.{held, opened_is, split_is, All-split}
 use Rattle.query_cli.proofs.descent.expand.Goals as goal
@@ -90,4 +91,4 @@ returns-in_ok-insert-in-Some-clause-holds c =
     let kids = children_of xs segs c.args.from c.args.until row c.in-Some.left q c.requires.few c.requires.small holds c.in-Some.ensures (omega (arith, c.div_ceil.ensures)) in
     let left = kids.left c.closed.result c.closed.ensures.row c.closed.ensures.small in
     let right = kids.right c.closed-in-Some.result c.closed-in-Some.ensures.row c.closed-in-Some.ensures.small in
-    rw c.in_ok-insert-in-Some.ensures.items (All-split (Holds xs segs c.args.from c.args.until) c.args.rows.now.items c.args.at c.closed.result c.closed-in-Some.result c.requires.holds left.0 right.0)
+    rw c.in_ok-insert-in-Some.ensures.items (All-split (IsRowOf xs segs c.args.from c.args.until) c.args.rows.now.items c.args.at c.closed.result c.closed-in-Some.result c.requires.holds left.0 right.0)

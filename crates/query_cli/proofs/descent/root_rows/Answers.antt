@@ -4,7 +4,7 @@ use Rattle.std.proofs.lemmas.Bool.{eqb-false}
 use Rattle.std.proofs.lemmas.List.Elements.{All-nil, All-cons}
 use Rattle.query_cli.specs.Cuts.{closed_row}
 use Rattle.query_cli.specs.Descents.{root_cut}
-use Rattle.query_cli.specs.Rows.{cut_of, Holds}
+use Rattle.query_cli.specs.Rows.{cut_of, IsRowOf}
 use Rattle.query_cli.proofs.PlaceLaws.{root_of, root_stands}
 use Rattle.query_cli.proofs.ExpandLaws.{root_cut-some}
 use Rattle.query_cli.proofs.descent.root_rows.Goals as goal
@@ -30,4 +30,4 @@ returns-clause-holds c =
     let some : 0 < length c.args.xs.now = grind arith in
     let root = root_of c.args.xs.now c.args.segs.now c.args.from c.args.until c.closed.result some c.requires.fitted c.closed.ensures.row c.closed.ensures.small in
     rw (c.in_ok-push.ensures.items, c.new-rows.ensures.items)
-    (All-cons (Holds c.args.xs.now c.args.segs.now c.args.from c.args.until) c.closed.result [] root.0 (All-nil (Holds c.args.xs.now c.args.segs.now c.args.from c.args.until)))
+    (All-cons (IsRowOf c.args.xs.now c.args.segs.now c.args.from c.args.until) c.closed.result [] root.0 (All-nil (IsRowOf c.args.xs.now c.args.segs.now c.args.from c.args.until)))

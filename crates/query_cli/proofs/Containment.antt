@@ -1,5 +1,5 @@
 -- The interval of a cut contains the plain sum of the readings over the range.
-use Rattle.std.proofs.Common.{◌≡◌, ℕ, zero, suc, ◌+◌, ◌-◌, ◌*◌, ◌≤◌, ◌<◌, ◌⊎◌, inl, inr, min, max, Bool, true, false, cond, ltb, List, [], ◌∷◌, length, take, drop, get_or, ℤ, pos, negsuc, ◌+ℤ◌, ◌-ℤ◌, ◌*ℤ◌, unsigned_abs, refl, sym, ap, subst, ◌∙◌, arith}
+use Rattle.std.proofs.Common.{◌≡◌, ℕ, ◌+◌, ◌-◌, ◌≤◌, ◌<◌, inl, inr, min, max, Bool, true, false, ltb, List, [], ◌∷◌, length, take, drop, ℤ, pos, negsuc, ◌+ℤ◌, ◌-ℤ◌, ◌*ℤ◌, unsigned_abs, refl, ap, ◌∙◌, arith}
 use Rattle.std.specs.Prelude.{◌≤ℤ◌}
 use Rattle.std.proofs.lemmas.Int.{ints}
 use Rattle.std.proofs.lemmas.List.{length-take, length-drop, get_or-take, get_or-drop}
@@ -7,14 +7,13 @@ use Rattle.std.proofs.lemmas.Bool.{cases_lt}
 use Rattle.std.proofs.lemmas.Bool.Decides.{nat_tests}
 use Rattle.semantics.specs.Readings.{reading, reading_from, from_zero, positions_in, plain_sum}
 use Rattle.semantics.specs.Sums.{total_below, sum_below}
-use Rattle.semantics.specs.Quotients.{floor_of, ceil_of}
 use Rattle.semantics.proofs.SumLaws.{total_below-same, total_below-*ℤ}
 use Rattle.semantics.proofs.QuotientLaws.{contains_near, floor_at_most, ceil_at_least}
 use Rattle.semantics.proofs.RangeLaws.{behind, sum_below-behind, total_below-near, total_over, total_over-none, total_over-split}
 use Rattle.segment.specs.declared.curves.Curve.{Curve}
-use Rattle.segment.specs.Measure.{unit, estimate_at, miss_at, miss, curve_of}
+use Rattle.segment.specs.Measure.{unit, estimate_at, miss_at, miss}
 use Rattle.segment.specs.Fit.{best_curve}
-use Rattle.query_cli.specs.Cuts.{Row, first_shared, shared, segment_of, estimate_behind, exact_behind, estimate, charge, estimates, charges, low_end, high_end, width, IsPartition}
+use Rattle.query_cli.specs.Cuts.{Row, estimate, charge, estimates, charges, low_end, high_end, width, IsPartition}
 
 -- a whole number that is 0 or below counts as 0
 from_zero-low : (z : ℤ) → z ≤ℤ pos 0 → from_zero z ≡ 0
@@ -58,12 +57,12 @@ curve_near xs p start len first k inside from to =
     let place = first - start in
     let scaled = total_below-*ℤ (pos unit) (behind (reading xs) first) k in
     let gap : (i : ℕ) → i < k → unsigned_abs ((pos unit *ℤ reading xs (first + i)) -ℤ estimate_at p (place + i)) ≤ miss_at p ys (place + i) =
-        λ i lt.
-            let same : reading ys (place + i) ≡ reading xs (first + i) = reading-part xs start len (place + i) (omega arith) ∙ ap (reading xs) (omega arith) in
-            rw same (omega arith) in
+    λ i lt.
+    let same : reading ys (place + i) ≡ reading xs (first + i) = reading-part xs start len (place + i) (omega arith) ∙ ap (reading xs) (omega arith) in
+    rw same (omega arith) in
     let near = total_below-near (λ i. pos unit *ℤ reading xs (first + i)) (behind (estimate_at p) place) (behind (miss_at p ys) place) k gap in
     let part : sum_below (behind (miss_at p ys) place) k ≤ sum_below (miss_at p ys) (length ys) =
-        sum_below-behind (miss_at p ys) place k (length ys) (rw (length-part xs start len inside) (omega arith)) in
+    sum_below-behind (miss_at p ys) place k (length ys) (rw (length-part xs start len inside) (omega arith)) in
     rw (← scaled) (omega (arith, near, part))
 
 -- a row's estimate is off by no more than its charge
@@ -123,8 +122,8 @@ cut_near xs from until start (row ∷ cut) inside (begins, some, rest) =
     let here = row_near xs from until row (omega (arith, partition_le (start + row.len) (length xs) cut rest)) in
     let more = cut_near xs from until (start + row.len) cut inside rest in
     let both : total_over (reading xs) (max from start) until
-        ≡ total_over (reading xs) (max from row.start) (min until (row.start + row.len)) +ℤ total_over (reading xs) (max from (start + row.len)) until =
-        rw begins (over_row (reading xs) from until start row.len) in
+    ≡ total_over (reading xs) (max from row.start) (min until (row.start + row.len)) +ℤ total_over (reading xs) (max from (start + row.len)) until =
+    rw begins (over_row (reading xs) from until start row.len) in
     near_both (total_over (reading xs) (max from row.start) (min until (row.start + row.len))) (total_over (reading xs) (max from (start + row.len)) until) _ (estimate xs from until row) (estimates xs from until cut)
     (charge xs from until row) (charges xs from until cut) here more both
 

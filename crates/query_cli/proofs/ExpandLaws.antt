@@ -1,7 +1,7 @@
 -- Replacing a row of a list is a step of the descent.
-use Rattle.std.proofs.Common.{◌≡◌, ℕ, zero, suc, ◌+◌, ◌-◌, ◌*◌, ◌^◌, ◌≤◌, ◌<◌, ◌⊎◌, inl, inr, max, Bool, true, false, cond, eqb, ℤ, pos, ◌+ℤ◌, ◌-ℤ◌, List, [], ◌∷◌, ◌++◌, length, take, drop, map, set, get_or, refl, sym, ap, ap₂, subst, ◌∙◌, arith, append_assoc, below_more}
+use Rattle.std.proofs.Common.{◌≡◌, ℕ, zero, suc, ◌+◌, ◌-◌, ◌≤◌, ◌<◌, cond, eqb, ℤ, pos, ◌+ℤ◌, ◌-ℤ◌, List, [], ◌∷◌, ◌++◌, length, take, drop, map, set, get_or, refl, sym, ap, ap₂, subst, ◌∙◌, arith, append_assoc, below_more}
 use Rattle.std.specs.Prelude.{insert}
-use Rattle.std.specs.List.{All, count_by, sum_by}
+use Rattle.std.specs.List.{All, count_by}
 use Rattle.std.proofs.lemmas.Bool.{cond-true, cond-false, eq-eqb, ne_eqb}
 use Rattle.std.proofs.lemmas.List.{get_or_default, get_or-map, length-map, map-append, map-set, take-map, drop-map, set_split, take_more_set, drop-set-lt}
 use Rattle.std.proofs.lemmas.List.Elements.{All-cons, All-head, All-tail, All-append, All-take, All-drop, All-set, All-weaker}
@@ -11,7 +11,7 @@ use Rattle.segment.specs.Measure.{unit}
 use Rattle.segment.specs.declared.segments.Seg.{Seg}
 use Rattle.segment.specs.Shape.{plan, IsSplit}
 use Rattle.query_cli.specs.declared.cut.CutRow.{CutRow}
-use Rattle.query_cli.specs.Cuts.{Row, closed_row, opened_row, charge, charges, estimate, estimates, low_end, high_end, width, IsPartition, IsCut, is_opened, opened_in}
+use Rattle.query_cli.specs.Cuts.{Row, closed_row, opened_row, charge, charges, estimates, low_end, high_end, width, IsPartition, IsCut, opened_in}
 use Rattle.query_cli.specs.Descents.{root_cut, rows_below, row_at, expanded, most_charge, expand_first, next_cut, cut_after, IsLast}
 use Rattle.query_cli.specs.Rows.{shown, cut_of, no_row, row_charge, IsRowOf, IsSmall, IsFirstGreatest, estimates_of, charges_of}
 use Rattle.query_cli.proofs.NodeLaws.{below-leaf, below-fork}
@@ -58,12 +58,12 @@ chosen xs segs from until budget at rows holds wide best =
     let within : at < length rows = omega (arith, best.within) in
     let same = λ (k : ℕ) (lt : k < length rows). charge-cut_of xs segs from until rows k holds lt in
     let greatest : most_charge xs from until (cut_of rows) ≤ charge xs from until (row_at (cut_of rows) at) =
-        most_charge-le xs from until (charge xs from until (row_at (cut_of rows) at)) (cut_of rows)
-        (λ k lt. omega (arith, same k (omega arith), same at within, best.greatest k (omega arith))) in
+    most_charge-le xs from until (charge xs from until (row_at (cut_of rows) at)) (cut_of rows)
+    (λ k lt. omega (arith, same k (omega arith), same at within, best.greatest k (omega arith))) in
     let reached = most_charge-at xs from until (cut_of rows) at (omega arith) in
     next_of_wide xs from until budget (cut_of rows) wide
     ∙ expand_at xs from until (most_charge xs from until (cut_of rows)) (cut_of rows) at (omega arith) (omega arith)
-      (λ k lt. omega (arith, same k (omega arith), same at within, best.first k lt, greatest, reached))
+    (λ k lt. omega (arith, same k (omega arith), same at within, best.first k lt, greatest, reached))
 
 -- a row that was read is one of the rows
 pub held : (xs : List ℤ) (segs : List Seg) (from until at : ℕ) (rows : List CutRow) (row : CutRow) → All (IsRowOf xs segs from until) rows → at < length rows → row ≡ get_or rows at row → IsRowOf xs segs from until row
@@ -78,7 +78,7 @@ pub opened_is : (rows : List CutRow) (at : ℕ) (old new : CutRow) → at < leng
 opened_is rows at old new within read small is =
     let m : length (cut_of rows) ≡ length rows = length-map rows shown in
     let below : rows_below (plan (row_at (cut_of rows) at).start (row_at (cut_of rows) at).len) ≡ opened_row old.start old.len ∷ [] =
-        rw (row_at-cut_of rows at within, read_is rows at old within read) (below-leaf old.start old.len small) in
+    rw (row_at-cut_of rows at within, read_is rows at old within read) (below-leaf old.start old.len small) in
     map-set shown rows at new ∙ set_split (cut_of rows) at (shown new) (omega arith)
     ∙ ap (λ r. take at (cut_of rows) ++ (r ∷ drop (suc at) (cut_of rows))) is
     ∙ ap (λ rows'. take at (cut_of rows) ++ (rows' ++ drop (suc at) (cut_of rows))) (sym below)
@@ -87,12 +87,12 @@ pub split_is : (rows : List CutRow) (at s : ℕ) (old left right : CutRow) → a
     → cut_of (insert (set rows at left) (at + 1) right) ≡ expanded (cut_of rows) at
 split_is rows at s old left right within read split is_left is_right =
     let below : rows_below (plan (row_at (cut_of rows) at).start (row_at (cut_of rows) at).len) ≡ closed_row old.start s ∷ closed_row (old.start + s) (old.len - s) ∷ [] =
-        rw (row_at-cut_of rows at within, read_is rows at old within read) (below-fork old.start old.len s split) in
+    rw (row_at-cut_of rows at within, read_is rows at old within read) (below-fork old.start old.len s split) in
     let next : at + 1 ≡ suc at = omega arith in
     let list : insert (set rows at left) (at + 1) right ≡ (take at rows ++ left ∷ []) ++ right ∷ drop (at + 1) rows =
-        ap₂ (λ xs ys. xs ++ right ∷ ys) (take_more_set rows at left within) (drop-set-lt (at + 1) rows at left (omega arith)) in
+    ap₂ (λ xs ys. xs ++ right ∷ ys) (take_more_set rows at left within) (drop-set-lt (at + 1) rows at left (omega arith)) in
     let seen : cut_of ((take at rows ++ left ∷ []) ++ right ∷ drop (at + 1) rows) ≡ (take at (cut_of rows) ++ shown left ∷ []) ++ shown right ∷ drop (at + 1) (cut_of rows) =
-        simp (map-append, take-map, drop-map) in
+    simp (map-append, take-map, drop-map) in
     ap cut_of list ∙ seen
     ∙ append_assoc (take at (cut_of rows)) (shown left ∷ []) (shown right ∷ drop (at + 1) (cut_of rows))
     ∙ ap₂ (λ l r. take at (cut_of rows) ++ (l ∷ r ∷ drop (at + 1) (cut_of rows))) is_left is_right

@@ -1,11 +1,11 @@
 -- What stands below a node of a tree.
-use Rattle.std.proofs.Common.{◌≡◌, ℕ, zero, suc, ◌+◌, ◌-◌, ◌*◌, ◌≤◌, ◌<◌, ◌⊎◌, inl, inr, List, [], ◌∷◌, ◌++◌, refl, sym, ap, ap₂, subst, ◌∙◌, arith}
+use Rattle.std.proofs.Common.{◌≡◌, ℕ, zero, suc, ◌+◌, ◌-◌, ◌≤◌, ◌<◌, inl, inr, [], ◌∷◌, ◌++◌, refl, ap, ap₂, ◌∙◌, arith}
 use Rattle.std.specs.List.{Contains}
 use Rattle.std.proofs.lemmas.Bool.{cases_lt}
 use Rattle.std.proofs.lemmas.List.Elements.{Contains-append_left, Contains-append_right}
-use Rattle.segment.specs.Shape.{Range, Plan, leaf, fork, room, plan, IsSplit, ranges, count}
+use Rattle.segment.specs.Shape.{Range, room, plan, IsSplit, ranges}
 use Rattle.segment.proofs.ShapeLaws.{room-suc, enough, plan-leaf, plan-fork}
-use Rattle.query_cli.specs.Cuts.{Row, closed_row, opened_row}
+use Rattle.query_cli.specs.Cuts.{closed_row, opened_row}
 use Rattle.query_cli.specs.Descents.{top_row, rows_below}
 
 split_below : (level len : ℕ) → 16 < len → len ≤ room level → (s : ℕ) × IsSplit len s

@@ -1,21 +1,20 @@
 -- Where the segments of a node's children stand, and what a segment of degree 0 gives.
-use Rattle.std.proofs.Common.{◌≡◌, ℕ, zero, suc, ◌+◌, ◌-◌, ◌*◌, ◌/◌, ◌^◌, ◌≤◌, ◌<◌, ◌⊎◌, inl, inr, min, max, cond, ltb, true, false, List, [], ◌∷◌, ◌++◌, length, take, drop, map, get_or, ℤ, pos, ◌+ℤ◌, ◌-ℤ◌, ◌*ℤ◌, unsigned_abs, refl, sym, ap, ap₂, subst, ◌∙◌, arith, mul-le-mul}
-use Rattle.std.proofs.lemmas.Int.{ints, unsigned_abs-mul}
-use Rattle.std.proofs.lemmas.Bool.{cases_lt, cond_both}
+use Rattle.std.proofs.Common.{◌≡◌, ℕ, zero, suc, ◌+◌, ◌-◌, ◌*◌, ◌/◌, ◌^◌, ◌≤◌, ◌<◌, inl, inr, min, max, false, List, [], ◌∷◌, ◌++◌, length, take, drop, map, get_or, ℤ, pos, ◌-ℤ◌, ◌*ℤ◌, unsigned_abs, refl, sym, ap, subst, ◌∙◌, arith}
+use Rattle.std.proofs.lemmas.Int.{ints}
+use Rattle.std.proofs.lemmas.Bool.{cases_lt}
 use Rattle.std.proofs.lemmas.List.{length-take, length-drop, length-map, get_or-take, get_or-drop, get_or_past, map-append, drop-take, drop-drop, take-take, take_at, drop_at, take_all}
 use Rattle.semantics.specs.Readings.{reading}
-use Rattle.semantics.specs.Sums.{total_below, sum_below}
+use Rattle.semantics.specs.Sums.{total_below}
 use Rattle.semantics.proofs.SumLaws.{total_below-same, sum_below-le}
-use Rattle.segment.specs.declared.curves.Curve.{Curve}
 use Rattle.segment.specs.declared.segments.Seg.{Seg}
-use Rattle.segment.specs.Shape.{Range, plan, ranges, count, IsSplit}
-use Rattle.segment.specs.Measure.{unit, estimate_at, miss_at, miss, spread, AreReadings}
-use Rattle.segment.specs.Fit.{flat_of, fit_over, readings_in}
+use Rattle.segment.specs.Shape.{plan, ranges, count, IsSplit}
+use Rattle.segment.specs.Measure.{unit, estimate_at, miss_at, miss, AreReadings}
+use Rattle.segment.specs.Fit.{flat_of, fit_over}
 use Rattle.segment.proofs.ShapeLaws.{plan-leaf, plan-fork, count-fork, count-plan, length-ranges}
 use Rattle.segment.proofs.Bounds.{spread-le}
 use Rattle.segment.proofs.FitLaws.{flat-le}
 use Rattle.query_cli.specs.declared.cut.CutRow.{CutRow}
-use Rattle.query_cli.specs.Cuts.{Row, closed_row, opened_row, first_shared, shared, segment_of, estimate_behind, estimate, charge}
+use Rattle.query_cli.specs.Cuts.{closed_row, estimate, charge}
 use Rattle.query_cli.specs.Rows.{shown, fits_of, HasTree, IsFlat, no_seg, closed_by, IsSmall, IsRowOf}
 use Rattle.query_cli.proofs.NodeLaws.{has_split}
 use Rattle.query_cli.proofs.Containment.{length-part, reading-part}
@@ -33,7 +32,7 @@ parts_of : {X : Type 0} (zs : List X) (p m n : ℕ) (y : X) (fs gs : List X) →
 parts_of {X} zs p m n y fs gs is lf lg =
     let front = λ (d : X). get_or-take (1 + (m + n)) (drop p zs) 0 d (omega arith) in
     let rest : take (m + n) (drop (p + 1) zs) ≡ fs ++ gs =
-        sym (ap (take (m + n)) (drop-drop 1 p zs)) ∙ sym (drop-take 1 (m + n) (drop p zs)) ∙ ap (drop 1) is in
+    sym (ap (take (m + n)) (drop-drop 1 p zs)) ∙ sym (drop-take 1 (m + n) (drop p zs)) ∙ ap (drop 1) is in
     let whole : length (take (1 + (m + n)) (drop p zs)) ≡ suc (length (fs ++ gs)) = ap length is in
     record {
       here = λ d. ap (λ k. get_or zs k d) (omega arith) ∙ sym (get_or-drop p zs 0 d) ∙ sym (front d) ∙ ap (λ ws. get_or ws 0 d) is;
@@ -60,7 +59,7 @@ fork_parts xs segs place start len s split tree =
     let n = count (plan (start + s) (len - s)) in
     let many : 1 + (m + n) ≡ count (plan start len) = omega (arith, count-fork start len s split) in
     let is : fits_at xs start len ≡ fit_at xs start len ∷ (fits_at xs start s ++ fits_at xs (start + s) (len - s)) =
-        ap (λ p. map (fit_over 0 xs) (ranges p)) (plan-fork start len s split) ∙ ap (λ gs. fit_at xs start len ∷ gs) (map-append (fit_over 0 xs) (ranges (plan start s)) (ranges (plan (start + s) (len - s)))) in
+    ap (λ p. map (fit_over 0 xs) (ranges p)) (plan-fork start len s split) ∙ ap (λ gs. fit_at xs start len ∷ gs) (map-append (fit_over 0 xs) (ranges (plan start s)) (ranges (plan (start + s) (len - s)))) in
     parts_of segs place m n (fit_at xs start len) (fits_at xs start s) (fits_at xs (start + s) (len - s))
     (ap (λ k. take k (drop place segs)) many ∙ tree ∙ is) (length-fits_at xs start s) (length-fits_at xs (start + s) (len - s))
 
@@ -179,7 +178,7 @@ pub closed_holds : (xs : List ℤ) (segs : List Seg) (seg : Seg) (from until pla
 closed_holds xs segs seg from until place start len some inside tree is small =
     let e : closed_by seg place from until ≡ row_for xs from until place start len = ap (λ g. closed_by g place from until) is ∙ closed_is xs from until place start len inside in
     let holds : IsRowOf xs segs from until (row_for xs from until place start len) =
-        record { some = some; inside = inside; tree = tree; estimated = refl; charged = refl; small = subst IsSmall e small } in
+    record { some = some; inside = inside; tree = tree; estimated = refl; charged = refl; small = subst IsSmall e small } in
     (subst (IsRowOf xs segs from until) (sym e) holds, ap shown e)
 
 -- what is known of the children of a row that is split at s, where the right one stands at a place q

@@ -1,5 +1,5 @@
 -- Laws of rows: their sums, and the first of the greatest charge.
-use Rattle.std.proofs.Common.{◌≡◌, ℕ, zero, suc, ◌+◌, ◌*◌, ◌^◌, ◌<◌, ◌≤◌, List, length, map, get_or, drop, ℤ, ◌+ℤ◌, unsigned_abs, to_z, of_z, refl, ap, ◌∙◌, arith, below_more}
+use Rattle.std.proofs.Common.{◌≡◌, ℕ, ◌+◌, ◌<◌, ◌≤◌, List, length, map, get_or, drop, ℤ, ◌+ℤ◌, to_z, of_z, ap, arith, below_more}
 use Rattle.std.specs.Int.{w128}
 use Rattle.std.proofs.lemmas.Int.{ints, to_z-of_z, fits_signed_from_abs}
 use Rattle.std.proofs.lemmas.List.{get_or-map, at_drop_more}

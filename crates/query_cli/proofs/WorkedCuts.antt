@@ -1,10 +1,10 @@
 -- Descents over small series, computed.
-use Rattle.std.proofs.Common.{◌≡◌, ℕ, zero, suc, ◌≤◌, ◌<◌, List, [], ◌∷◌, ℤ, pos, negsuc, refl, sym, subst, arith}
-use Rattle.segment.specs.Shape.{Plan, leaf, fork, plan, IsSplit}
+use Rattle.std.proofs.Common.{◌≡◌, ℕ, zero, suc, ◌<◌, List, [], ◌∷◌, ℤ, pos, negsuc, refl, sym, arith}
+use Rattle.segment.specs.Shape.{leaf, fork, plan, IsSplit}
 use Rattle.segment.specs.Measure.{miss, spread, reach}
 use Rattle.segment.specs.Fit.{flat_of}
 use Rattle.segment.proofs.ShapeLaws.{plan-leaf, plan-fork}
-use Rattle.query_cli.specs.Cuts.{Row, closed_row, opened_row, low_end, high_end, width, opened_in}
+use Rattle.query_cli.specs.Cuts.{Row, closed_row, opened_row, low_end, high_end, width}
 use Rattle.query_cli.specs.Descents.{cut_after, IsLast}
 
 -- 32 readings, 0 and 10 in turn

@@ -1,6 +1,6 @@
 -- The descent: from the cut of the root, the row that is charged most is replaced by what is below it, until the
 -- interval is no wider than a budget.
-use Rattle.std.specs.Prelude.{◌≡◌, ℕ, zero, suc, ◌+◌, ◌≤◌, ◌<◌, ◌==◌, List, [], ◌∷◌, ◌++◌, length, take, drop, get_or, max, if◌then◌else◌, ℤ}
+use Rattle.std.specs.Prelude.{◌≡◌, ℕ, zero, suc, ◌≤◌, ◌<◌, ◌==◌, List, [], ◌∷◌, ◌++◌, length, take, drop, get_or, max, if◌then◌else◌, ℤ}
 use Rattle.segment.specs.Shape.{Plan, leaf, fork, plan}
 use Rattle.query_cli.specs.declared.descent.Answer.{Answer}
 use Rattle.query_cli.specs.Cuts.{Row, closed_row, opened_row, charge, low_end, high_end, width, IsCut, opened_in}

@@ -1,5 +1,5 @@
 -- The rows of a cut as the code keeps them: each with the place of its segment, and with what it gives to the sum.
-use Rattle.std.specs.Prelude.{◌≡◌, ℕ, ◌+◌, ◌-◌, ◌^◌, ◌<◌, ◌≤◌, List, [], ◌∷◌, length, take, drop, map, min, max, nat_lt, if◌then◌else◌, false, get_or, unsigned_abs, ℤ, pos, ◌+ℤ◌, ◌*ℤ◌, slice_index}
+use Rattle.std.specs.Prelude.{◌≡◌, ℕ, ◌+◌, ◌-◌, ◌^◌, ◌<◌, ◌≤◌, List, [], ◌∷◌, length, take, drop, map, min, max, nat_lt, if◌then◌else◌, false, unsigned_abs, ℤ, pos, ◌+ℤ◌, ◌*ℤ◌, slice_index}
 use Rattle.segment.specs.declared.segments.Seg.{Seg}
 use Rattle.segment.specs.Shape.{plan, ranges, shape, count}
 use Rattle.segment.specs.Fit.{fit_over}

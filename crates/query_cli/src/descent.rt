@@ -128,5 +128,4 @@ pub(crate) fn descend(
 /// Every budget is met by some cut, a budget of 0 too.
 pub(crate) fn every_budget_is_met()
     ensures { EachBudgetIsMet }
-{
-}
+{}

@@ -1,4 +1,4 @@
-use Rattle.std.proofs.Common.{◌≡◌, ◌*◌, ◌^◌, ◌≤◌, get_or, ◌+ℤ◌, unsigned_abs, to_z, of_z, SFits, rules, arith}
+use Rattle.std.proofs.Common.{get_or, SFits, rules, arith}
 use Rattle.std.specs.Int.{w128}
 use Rattle.std.proofs.lemmas.Int.{to_z-of_z}
 use Rattle.query_cli.specs.Rows.{no_row}

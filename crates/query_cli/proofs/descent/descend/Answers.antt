@@ -1,12 +1,10 @@
-use Rattle.std.proofs.Common.{◌≡◌, ℕ, ◌*◌, ◌^◌, ◌<◌, ◌≤◌, List, length, map, ℤ, pos, ◌-ℤ◌, sym, ap, ap₂, ◌∙◌, arith}
-use Rattle.std.specs.Prelude.{◌≤ℤ◌}
+use Rattle.std.proofs.Common.{◌≡◌, ◌<◌, ◌≤◌, length, pos, ◌-ℤ◌, sym, ap, ap₂, ◌∙◌, arith}
 use Rattle.std.specs.List.{count_by}
 use Rattle.std.proofs.lemmas.List.{length-map}
 use Rattle.semantics.specs.Readings.{plain_sum, from_zero}
 use Rattle.query_cli.specs.declared.cut.CutRow.{CutRow}
 use Rattle.query_cli.specs.Cuts.{low_end, high_end, width}
-use Rattle.query_cli.specs.Descents.{Tells}
-use Rattle.query_cli.specs.Rows.{shown, cut_of, fits_of}
+use Rattle.query_cli.specs.Rows.{shown, cut_of}
 use Rattle.query_cli.proofs.Containment.{contains_sum, from_zero-between}
 use Rattle.query_cli.proofs.PlaceLaws.{length-fits_of}
 use Rattle.query_cli.proofs.ExpandLaws.{Reached, root_reached, next_reached, next_work, last_reached, reached_is_cut, few_rows, low_end-cut_of, high_end-cut_of, opened_in-cut_of}

@@ -1,5 +1,4 @@
-use Rattle.std.proofs.Common.{◌≡◌, ◌+◌, ◌*◌, ◌^◌, ◌<◌, ◌≤◌, length, refl, ap, ◌∙◌, arith}
-use Rattle.query_cli.specs.Descents.{expanded}
+use Rattle.std.proofs.Common.{◌+◌, ◌*◌, ap, ◌∙◌, arith}
 use Rattle.query_cli.specs.Rows.{cut_of, shown, IsRowOf}
 use Rattle.query_cli.proofs.PlaceLaws.{children_of}
 use Rattle.query_cli.proofs.ExpandLaws.{held, opened_is, split_is, All-split}

@@ -1,10 +1,6 @@
-use Rattle.std.proofs.Common.{◌≡◌, ◌<◌, [], length, List, ℤ, ap, ◌∙◌, sym, arith}
-use Rattle.std.specs.List.{All}
-use Rattle.std.proofs.lemmas.Bool.{eqb-false}
+use Rattle.std.proofs.Common.{◌<◌, [], length, sym, arith}
 use Rattle.std.proofs.lemmas.List.Elements.{All-nil, All-cons}
-use Rattle.query_cli.specs.Cuts.{closed_row}
-use Rattle.query_cli.specs.Descents.{root_cut}
-use Rattle.query_cli.specs.Rows.{cut_of, IsRowOf}
+use Rattle.query_cli.specs.Rows.{IsRowOf}
 use Rattle.query_cli.proofs.PlaceLaws.{root_of, root_stands}
 use Rattle.query_cli.proofs.ExpandLaws.{root_cut-some}
 use Rattle.query_cli.proofs.descent.root_rows.Goals as goal

@@ -1,14 +1,14 @@
 -- Each cut of the descent is a cut of the tree, and the descent meets every budget.
-use Rattle.std.proofs.Common.{◌≡◌, ℕ, zero, suc, ◌+◌, ◌-◌, ◌≤◌, ◌<◌, inl, inr, Bool, true, false, cond, eqb, List, [], ◌∷◌, ◌++◌, length, ℤ, refl, subst, arith, below_more}
+use Rattle.std.proofs.Common.{◌≡◌, ℕ, zero, suc, ◌+◌, ◌-◌, ◌≤◌, ◌<◌, inl, inr, Bool, true, false, cond, eqb, List, [], ◌∷◌, ◌++◌, length, ℤ, refl, sym, ap, subst, ◌∙◌, arith, below_more}
 use Rattle.std.specs.List.{Contains, All}
 use Rattle.std.proofs.lemmas.Bool.{cases_lt, eqb-true, eqb-false, cond_both, cond-false}
 use Rattle.std.proofs.lemmas.List.Elements.{All-nil, All-cons, All-head, All-tail, All-append, All-weaker}
 use Rattle.segment.specs.Shape.{Range, plan, ranges, shape, count}
 use Rattle.segment.proofs.ShapeLaws.{count-leaf, count-fork}
 use Rattle.query_cli.specs.Cuts.{Row, closed_row, opened_row, range_of, charge, charges, width, IsPartition, IsNode, IsCut}
-use Rattle.query_cli.specs.Descents.{root_cut, rows_below, most_charge, expand_first, next_cut, cut_after, IsLast, EachBudgetIsMet}
+use Rattle.query_cli.specs.Descents.{root_cut, rows_below, most_charge, expand_first, next_cut, cut_after, IsLast, EachCutIsOfTheTree, EachCutHoldsTheSum, EachBudgetIsMet}
 use Rattle.query_cli.proofs.NodeLaws.{has_split, below-leaf, below-fork, ranges_have_top, ranges_have_left, ranges_have_right}
-use Rattle.query_cli.proofs.Containment.{width-exact}
+use Rattle.query_cli.proofs.Containment.{contains_sum, width-exact}
 
 -- ---- the rows follow one another
 
@@ -150,5 +150,23 @@ ends xs from until budget (suc fuel) steps less before = elim (cases_lt budget (
   | inr within ↦ (cut_after xs from until steps, record { steps = steps; reached = refl; within = within; before = before })
 ]
 
+-- there is no other
+last_is_one : (xs : List ℤ) (from until budget : ℕ) (a b : List Row) → IsLast xs from until budget a → IsLast xs from until budget b → a ≡ b
+last_is_one xs from until budget a b la lb = elim (cases_lt la.steps lb.steps) [
+  | inl lt ↦ absurd (omega (arith, lb.before la.steps lt, la.within, ap (width xs from until) la.reached))
+  | inr le ↦ elim (cases_lt lb.steps la.steps) [
+    | inl lt ↦ absurd (omega (arith, la.before lb.steps lt, lb.within, ap (width xs from until) lb.reached))
+    | inr ge ↦ let e : la.steps ≡ lb.steps = omega arith in la.reached ∙ ap (cut_after xs from until) e ∙ sym lb.reached
+  ]
+]
+
+pub each_cut_is_of_the_tree : EachCutIsOfTheTree
+each_cut_is_of_the_tree = after_is_cut
+
+pub each_cut_holds_the_sum : EachCutHoldsTheSum
+each_cut_holds_the_sum = λ xs from until cut inside is. contains_sum xs from until cut inside is.partition
+
 pub each_budget_is_met : EachBudgetIsMet
-each_budget_is_met = λ xs from until budget. ends xs from until budget (suc (works (cut_after xs from until 0))) 0 (omega arith) (λ k lt. absurd (omega arith))
+each_budget_is_met = λ xs from until budget.
+    let last = ends xs from until budget (suc (works (cut_after xs from until 0))) 0 (omega arith) (λ k lt. absurd (omega arith)) in
+    (last.0, last.1, λ other h. last_is_one xs from until budget other last.0 h last.1)

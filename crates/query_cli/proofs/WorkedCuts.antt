@@ -1,10 +1,10 @@
 -- Descents over small series, computed.
-use Rattle.std.proofs.Common.{◌≡◌, ℕ, zero, suc, ◌<◌, List, [], ◌∷◌, ℤ, pos, negsuc, refl, sym, arith}
+use Rattle.std.proofs.Common.{◌≡◌, ℕ, zero, suc, ◌<◌, List, [], ◌∷◌, length, ℤ, pos, negsuc, refl, sym, arith}
 use Rattle.segment.specs.Shape.{leaf, fork, plan, IsSplit}
 use Rattle.segment.specs.Measure.{miss, spread, reach}
 use Rattle.segment.specs.Fit.{flat_of}
 use Rattle.segment.proofs.ShapeLaws.{plan-leaf, plan-fork}
-use Rattle.query_cli.specs.Cuts.{Row, closed_row, opened_row, low_end, high_end, width}
+use Rattle.query_cli.specs.Cuts.{Row, closed_row, opened_row, low_end, high_end, width, opened_in}
 use Rattle.query_cli.specs.Descents.{cut_after, IsLast}
 
 -- 32 readings, 0 and 10 in turn
@@ -128,3 +128,13 @@ last-0 = record {
 
 last_part : IsLast readings 3 5 320 (closed_row 0 32 ∷ [])
 last_part = record { steps = 0; reached = sym first; within = omega (arith, part_ends.width); before = λ k less. absurd (omega arith) }
+
+-- how many rows are printed, and how many of them as opened
+rows-320 : (length (closed_row 0 32 ∷ []) ≡ 1) × (opened_in (closed_row 0 32 ∷ []) ≡ 0)
+rows-320 = (refl, refl)
+
+rows-319 : (length (opened_row 0 16 ∷ closed_row 16 16 ∷ []) ≡ 2) × (opened_in (opened_row 0 16 ∷ closed_row 16 16 ∷ []) ≡ 1)
+rows-319 = (refl, refl)
+
+rows-0 : (length (opened_row 0 16 ∷ opened_row 16 16 ∷ []) ≡ 2) × (opened_in (opened_row 0 16 ∷ opened_row 16 16 ∷ []) ≡ 2)
+rows-0 = (refl, refl)

@@ -1,6 +1,7 @@
 -- The descent: from the cut of the root, the row that is charged most is replaced by what is below it, until the
 -- interval is no wider than a budget.
-use Rattle.std.specs.Prelude.{◌≡◌, ℕ, zero, suc, ◌≤◌, ◌<◌, ◌==◌, List, [], ◌∷◌, ◌++◌, length, take, drop, get_or, max, if◌then◌else◌, ℤ}
+use Rattle.std.specs.Prelude.{◌≡◌, ℕ, zero, suc, ◌≤◌, ◌<◌, ◌==◌, List, [], ◌∷◌, ◌++◌, length, take, drop, get_or, max, if◌then◌else◌, ℤ, pos, ◌≤ℤ◌}
+use Rattle.semantics.specs.Readings.{plain_sum}
 use Rattle.segment.specs.Shape.{Plan, leaf, fork, plan}
 use Rattle.query_cli.specs.declared.descent.Answer.{Answer}
 use Rattle.query_cli.specs.Cuts.{Row, closed_row, opened_row, charge, low_end, high_end, width, IsCut, opened_in}
@@ -56,9 +57,18 @@ pub record IsLast (xs : List ℤ) (from until budget : ℕ) (cut : List Row) : T
   pub within : width xs from until cut ≤ budget
   pub before : (k : ℕ) → k < steps → budget < width xs from until (cut_after xs from until k)
 
--- every budget is met, 0 too
+-- each cut of a descent is a cut of the tree
+abbrev pub EachCutIsOfTheTree : Type 0
+EachCutIsOfTheTree = (xs : List ℤ) (from until steps : ℕ) → IsCut (length xs) (cut_after xs from until steps)
+
+-- the interval of each cut of the tree holds the plain sum
+abbrev pub EachCutHoldsTheSum : Type 0
+EachCutHoldsTheSum = (xs : List ℤ) (from until : ℕ) (cut : List Row) → until ≤ length xs → IsCut (length xs) cut
+    → (low_end xs from until cut ≤ℤ plain_sum xs (pos from) (pos until)) × (plain_sum xs (pos from) (pos until) ≤ℤ high_end xs from until cut)
+
+-- each budget is met by one cut, 0 too
 abbrev pub EachBudgetIsMet : Type 0
-EachBudgetIsMet = (xs : List ℤ) (from until budget : ℕ) → (cut : List Row) × IsLast xs from until budget cut
+EachBudgetIsMet = (xs : List ℤ) (from until budget : ℕ) → (cut : List Row) × IsLast xs from until budget cut × ((other : List Row) → IsLast xs from until budget other → other ≡ cut)
 
 -- an answer tells the interval of the last cut
 pub record Tells (xs : List ℤ) (from until budget : ℕ) (a : Answer) : Type 0 where

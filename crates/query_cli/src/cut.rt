@@ -12,6 +12,9 @@ ghost use Rattle.query_cli.specs.Rows.{IsFlat, no_seg, closed_by, estimates_of, 
 use poly::{minus, plus};
 use segment::Seg;
 
+/// Estimates and charges are in units of 1 / `UNIT`.
+const UNIT: i128 = 1 << 14;
+
 /// A node that stands in a cut, with what it gives to the sum over a range.
 #[derive(Clone, Copy, Drop)]
 pub(crate) struct CutRow {
@@ -20,7 +23,7 @@ pub(crate) struct CutRow {
     pub(crate) start: u32,
     pub(crate) len: u32,
     pub(crate) opened: bool,
-    /// In units of 1 / 2 ^ 14, as is the charge.
+    /// In units of 1 / `UNIT`, as is the charge.
     pub(crate) estimate: i128,
     pub(crate) charge: u128,
 }
@@ -62,16 +65,16 @@ pub(crate) fn closed(segs: &[Seg], place: u32, from: u32, until: u32) -> CutRow
     }
 }
 
-/// A reading in units of 1 / 2 ^ 14.
+/// A reading in units.
 fn exact(x: i32) -> i128
     requires { unsigned_abs x ≤ 10 ^ 9 }
     ensures value { result ≡ pos unit *ℤ x }
     ensures bound { unsigned_abs result ≤ 2 ^ 44 }
 {
-    16384 * i128::from(x)
+    UNIT * i128::from(x)
 }
 
-/// The sum of `count` readings from a position on, in units of 1 / 2 ^ 14.
+/// The sum of `count` readings from a position on, in units.
 fn exact_sum(xs: &[i32], first: usize, count: usize) -> i128
     requires within { first + count ≤ length xs.now }
     requires few { length xs.now ≤ 2 ^ 20 }
@@ -150,16 +153,16 @@ fn charge_of(rows: &[CutRow]) -> u128
     sum
 }
 
-/// The greatest whole number of units in `z`.
+/// The greatest whole number that has at most `z` units.
 fn floor(z: i128) -> i128
     requires { unsigned_abs z ≤ 2 ^ 100 }
     ensures value { result ≡ floor_of z unit }
     ensures bound { unsigned_abs result ≤ 2 ^ 100 }
 {
-    z.div_euclid(16384)
+    z.div_euclid(UNIT)
 }
 
-/// The least whole number of units that has all of `z`.
+/// The least whole number that has at least `z` units.
 fn ceil(z: i128) -> i128
     requires { unsigned_abs z ≤ 2 ^ 100 }
     ensures value { result ≡ ceil_of z unit }
@@ -176,7 +179,7 @@ pub(crate) struct Interval {
 }
 
 impl Interval {
-    /// The whole numbers that are no further than an error from an estimate, both in units of 1 / 2 ^ 14.
+    /// The whole numbers that are no further than an error from an estimate, both in units.
     fn around(estimate: i128, error: u128) -> Interval
         requires estimate { unsigned_abs estimate ≤ 2 ^ 92 }
         requires error { error ≤ 2 ^ 92 }

@@ -4,7 +4,7 @@ ghost use Rattle.std.specs.Prelude.{◌≡◌, ℕ, ◌+◌, ◌-◌, ◌*◌, �
 ghost use Rattle.std.specs.List.{All, count_by};
 ghost use Rattle.semantics.specs.Readings.{plain_sum, from_zero};
 ghost use Rattle.segment.specs.Measure.{AreReadings};
-ghost use Rattle.query_cli.specs.Descents.{root_cut, expanded, EachBudgetIsMet, Tells};
+ghost use Rattle.query_cli.specs.Descents.{root_cut, expanded, EachCutIsOfTheTree, EachCutHoldsTheSum, EachBudgetIsMet, Tells};
 ghost use Rattle.query_cli.specs.Rows.{cut_of, fits_of, IsRowOf};
 
 use crate::cut::{CutRow, Interval, closed, heaviest, interval_of, opened_in};
@@ -125,7 +125,10 @@ pub(crate) fn descend(
     Ok(answer_of(&rows, &interval))
 }
 
-/// Every budget is met by some cut, a budget of 0 too.
-pub(crate) fn every_budget_is_met()
-    ensures { EachBudgetIsMet }
+/// What holds of all descents: their cuts are cuts of the tree, the interval of a cut holds the plain sum, and each budget
+/// is met by one cut, a budget of 0 too.
+pub(crate) fn laws_of_descents()
+    ensures cuts { EachCutIsOfTheTree }
+    ensures sums { EachCutHoldsTheSum }
+    ensures budgets { EachBudgetIsMet }
 {}

@@ -36,5 +36,5 @@ unfolding total_over
 total_over-split f a m b left right =
     let n : b - a ≡ (m - a) + (b - m) = omega arith in
     let rest : total_below (behind (behind f a) (m - a)) (b - m) ≡ total_below (behind f m) (b - m) =
-        total_below-same (behind (behind f a) (m - a)) (behind f m) (b - m) (λ i lt. ap f (omega arith)) in
+    total_below-same (behind (behind f a) (m - a)) (behind f m) (b - m) (λ i lt. ap f (omega arith)) in
     ap (total_below (behind f a)) n ∙ total_below-split (behind f a) (m - a) (b - m) ∙ ap (λ t. total_below (behind f a) (m - a) +ℤ t) rest

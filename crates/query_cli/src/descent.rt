@@ -125,10 +125,13 @@ pub(crate) fn descend(
     Ok(answer_of(&rows, &interval))
 }
 
-/// What holds of all descents: their cuts are cuts of the tree, the interval of a cut holds the plain sum, and each budget
-/// is met by one cut, a budget of 0 too.
-pub(crate) fn laws_of_descents()
+/// Every budget is met by some cut, a budget of 0 too.
+pub fn every_budget_is_met()
+    ensures { EachBudgetIsMet }
+{}
+
+/// The cuts of a descent are cuts of the tree, and the interval of each such cut holds the plain sum.
+pub fn every_cut_holds_the_sum()
     ensures cuts { EachCutIsOfTheTree }
     ensures sums { EachCutHoldsTheSum }
-    ensures budgets { EachBudgetIsMet }
 {}

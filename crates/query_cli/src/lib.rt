@@ -1,0 +1,5 @@
+//! The commands of the program.
+#![tactic(auto)]
+
+mod cut;
+mod descent;

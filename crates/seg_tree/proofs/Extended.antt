@@ -1,0 +1,138 @@
+-- A tree stays as it is where nodes are added.
+use Rattle.std.proofs.Common.{◌≡◌, ℕ, ◌+◌, ◌-◌, ◌<◌, ◌≤◌, ℤ, List, [], ◌∷◌, ◌++◌, length, take, refl, ap, ◌∙◌, sym, subst, arith, get_or-take, length-take, take-take, length-append, append_assoc}
+use Rattle.std.proofs.Math.Seq.{take-length, get_or-append_seam}
+use Rattle.std.proofs.lemmas.List.{take-append-le}
+use Rattle.segment.specs.Shape.{Plan, leaf, fork, plan, IsSplit}
+use Rattle.segment.proofs.ShapeLaws.{plan-leaf, plan-fork}
+use Rattle.segment.specs.declared.segments.Seg.{Seg}
+use Rattle.segment.specs.Tree.{SegTree, tip, node, segs_of, readings_of}
+use Rattle.seg_tree.specs.declared.nodes.Node.{Node}
+use Rattle.seg_tree.specs.Linked.{no_node, node_at, IsLeaf, IsFork, kept, left_child, right_child, IsLinked, tree_at, Holds, Extends}
+
+pub Extends_refl : (a : List Node) → Extends a a
+Extends_refl a = take-length a
+
+pub Extends-length : (old new : List Node) → Extends old new → length old ≤ length new
+Extends-length old new e = omega (arith, length-take (length old) new, ap length e)
+
+pub Extends_trans : (a b c : List Node) → Extends a b → Extends b c → Extends a c
+Extends_trans a b c p q = sym (take-take (length a) (length b) c (Extends-length a b p)) ∙ ap (take (length a)) q ∙ p
+
+-- an old place keeps its node
+pub node_at-Extends : (old new : List Node) (p : ℕ) → Extends old new → p < length old → node_at new p ≡ node_at old p
+node_at-Extends old new p e lt = sym (get_or-take (length old) new p no_node lt) ∙ ap (λ ns. node_at ns p) e
+
+pub IsLinked-within : (nodes : List Node) (p : ℕ) (plan : Plan) → IsLinked nodes p plan → p < length nodes
+IsLinked-within nodes p (leaf s n) w = w.0
+IsLinked-within nodes p (fork s n l r) w = w.0
+
+pub IsLinked-Extends : (old new : List Node) (p : ℕ) (plan : Plan) → Extends old new → IsLinked old p plan → IsLinked new p plan
+IsLinked-Extends old new p (leaf s n) e w =
+    let same = node_at-Extends old new p e w.0 in
+    (omega (arith, w.0, Extends-length old new e), subst (λ (x : Node). IsLeaf n x.below) (sym same) w.1)
+IsLinked-Extends old new p (fork s n l r) e w =
+    let same = node_at-Extends old new p e w.0 in (
+      omega (arith, w.0, Extends-length old new e),
+      subst (λ (x : Node). IsFork x.below) (sym same) w.1,
+      subst (λ (x : Node). IsLinked new (left_child x.below) l) (sym same) (IsLinked-Extends old new (left_child (node_at old p).below) l e w.2),
+      subst (λ (x : Node). IsLinked new (right_child x.below) r) (sym same) (IsLinked-Extends old new (right_child (node_at old p).below) r e w.3),
+    )
+
+pub tree_at-Extends : (old new : List Node) (p : ℕ) (plan : Plan) → Extends old new → IsLinked old p plan → tree_at new p plan ≡ tree_at old p plan
+tree_at-Extends old new p (leaf s n) e w = rw (node_at-Extends old new p e w.0) refl
+tree_at-Extends old new p (fork s n l r) e w =
+    rw (node_at-Extends old new p e w.0, tree_at-Extends old new (left_child (node_at old p).below) l e w.2, tree_at-Extends old new (right_child (node_at old p).below) r e w.3) refl
+
+pub Holds-Extends : (old new : List Node) (p : ℕ) (plan : Plan) (t : SegTree) → Extends old new → Holds old p plan t → Holds new p plan t
+Holds-Extends old new p plan t e h = record { linked = IsLinked-Extends old new p plan e h.linked; content = tree_at-Extends old new p plan e h.linked ∙ h.content }
+
+-- ---- one more node
+
+pub Extends_push : (old : List Node) (x : Node) → Extends old (old ++ x ∷ [])
+Extends_push old x = take-append-le (length old) old (x ∷ []) (omega arith) ∙ take-length old
+
+pub node_at_push : (old : List Node) (x : Node) → node_at (old ++ x ∷ []) (length old) ≡ x
+node_at_push old x = get_or-append_seam old x [] no_node
+
+within_push : (old : List Node) (x : Node) → length old < length (old ++ x ∷ [])
+within_push old x = omega (arith, length-append old (x ∷ []))
+
+-- a new leaf is a tree
+pub leaf_holds : (old : List Node) (x : Node) (s n : ℕ) → IsLeaf n x.below → Holds (old ++ x ∷ []) (length old) (leaf s n) (tip x.seg (take n (kept x.below)))
+leaf_holds old x s n at_end = record {
+  linked = (within_push old x, subst (λ (y : Node). IsLeaf n y.below) (sym (node_at_push old x)) at_end);
+  content = rw (node_at_push old x) refl;
+}
+
+-- a new fork over two trees is a tree
+pub fork_holds : (old : List Node) (x : Node) (s n : ℕ) (lp rp : Plan) (lt rt : SegTree) → IsFork x.below
+    → Holds old (left_child x.below) lp lt → Holds old (right_child x.below) rp rt → Holds (old ++ x ∷ []) (length old) (fork s n lp rp) (node x.seg lt rt)
+fork_holds old x s n lp rp lt rt forks a b =
+    let new : List Node = old ++ x ∷ [] in
+    let at = node_at_push old x in
+    let l = Holds-Extends old new (left_child x.below) lp lt (Extends_push old x) a in
+    let r = Holds-Extends old new (right_child x.below) rp rt (Extends_push old x) b in
+    record {
+      linked = (
+        within_push old x,
+        subst (λ (y : Node). IsFork y.below) (sym at) forks,
+        subst (λ (y : Node). IsLinked new (left_child y.below) lp) (sym at) l.linked,
+        subst (λ (y : Node). IsLinked new (right_child y.below) rp) (sym at) r.linked,
+      );
+      content = rw (at, l.content, r.content) refl;
+    }
+
+-- ---- the parts of a tree
+
+-- what the links say of a leaf
+pub record IsLeafAt (nodes : List Node) (p start len : ℕ) : Type 0 where
+  pub within : p < length nodes
+  pub at_end : IsLeaf len (node_at nodes p).below
+  pub content : tree_at nodes p (plan start len) ≡ tip (node_at nodes p).seg (take len (kept (node_at nodes p).below))
+
+-- what the links say of a fork
+pub record IsForkAt (nodes : List Node) (p start len s : ℕ) : Type 0 where
+  pub within : p < length nodes
+  pub forks : IsFork (node_at nodes p).below
+  pub left : IsLinked nodes (left_child (node_at nodes p).below) (plan start s)
+  pub right : IsLinked nodes (right_child (node_at nodes p).below) (plan (start + s) (len - s))
+  pub content : tree_at nodes p (plan start len) ≡ node (node_at nodes p).seg (tree_at nodes (left_child (node_at nodes p).below) (plan start s)) (tree_at nodes (right_child (node_at nodes p).below) (plan (start + s) (len - s)))
+
+pub leaf_at : (nodes : List Node) (p start len : ℕ) → len ≤ 16 → IsLinked nodes p (plan start len) → IsLeafAt nodes p start len
+leaf_at nodes p start len short linked =
+    let is = plan-leaf start len short in
+    let at_leaf = subst (IsLinked nodes p) is linked in
+    record { within = at_leaf.0; at_end = at_leaf.1; content = ap (tree_at nodes p) is }
+
+pub fork_at : (nodes : List Node) (p start len s : ℕ) → IsSplit len s → IsLinked nodes p (plan start len) → IsForkAt nodes p start len s
+fork_at nodes p start len s split linked =
+    let is = plan-fork start len s split in
+    let at_fork = subst (IsLinked nodes p) is linked in
+    record { within = at_fork.0; forks = at_fork.1; left = at_fork.2; right = at_fork.3; content = ap (tree_at nodes p) is }
+
+-- ---- the segments of a tree, one after another
+
+pub segs_leaf : (nodes : List Node) (p start len : ℕ) (before after : List Seg) → IsLeafAt nodes p start len → after ≡ before ++ (node_at nodes p).seg ∷ [] → after ≡ before ++ segs_of (tree_at nodes p (plan start len))
+segs_leaf nodes p start len before after at pushed = pushed ∙ ap (λ t. before ++ segs_of t) (sym at.content)
+
+pub segs_fork : (nodes : List Node) (p start len s : ℕ) (before own left after : List Seg) (l r : ℕ) → IsForkAt nodes p start len s
+    → l ≡ left_child (node_at nodes p).below → r ≡ right_child (node_at nodes p).below
+    → own ≡ before ++ (node_at nodes p).seg ∷ []
+    → left ≡ own ++ segs_of (tree_at nodes l (plan start s))
+    → after ≡ left ++ segs_of (tree_at nodes r (plan (start + s) (len - s)))
+    → after ≡ before ++ segs_of (tree_at nodes p (plan start len))
+segs_fork nodes p start len s before own left after l r at is_l is_r first second third =
+    rw (third, second, first, is_l, is_r, at.content) (simp append_assoc)
+
+-- ---- the readings of a tree, one after another
+
+pub readings_leaf : (nodes : List Node) (p start len : ℕ) (before after : List ℤ) → IsLeafAt nodes p start len → after ≡ before ++ take len (kept (node_at nodes p).below) → after ≡ before ++ readings_of (tree_at nodes p (plan start len))
+readings_leaf nodes p start len before after at pushed = pushed ∙ ap (λ t. before ++ readings_of t) (sym at.content)
+
+pub readings_fork : (nodes : List Node) (p start len s : ℕ) (before left after : List ℤ) (l r : ℕ) → IsForkAt nodes p start len s
+    → l ≡ left_child (node_at nodes p).below → r ≡ right_child (node_at nodes p).below
+    → left ≡ before ++ readings_of (tree_at nodes l (plan start s))
+    → after ≡ left ++ readings_of (tree_at nodes r (plan (start + s) (len - s)))
+    → after ≡ before ++ readings_of (tree_at nodes p (plan start len))
+readings_fork nodes p start len s before left after l r at is_l is_r first second =
+    rw (second, first, is_l, is_r, at.content) (simp append_assoc)

@@ -1,0 +1,5 @@
+pub mod Held
+pub mod Linked
+pub mod Reached
+pub mod ReachedLaws
+pub mod Trees

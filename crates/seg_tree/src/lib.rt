@@ -1,0 +1,12 @@
+//! Trees of segments as linked nodes of an arena.
+#![tactic(auto)]
+
+mod arena;
+mod arena_nodes;
+mod building;
+mod nodes;
+mod reading;
+
+pub use arena::{Arena, Tree, TreeErr};
+pub use arena_nodes::ArenaNodes;
+pub use nodes::{Below, Node};

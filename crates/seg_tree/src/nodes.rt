@@ -1,0 +1,56 @@
+ghost use Rattle.std.specs.Prelude.{◌≡◌, ◌+◌, ◌^◌, ◌<◌, ◌≤◌, length, take, [], ◌∷◌, ◌++◌, IfOk, OnErr};
+ghost use Rattle.seg_tree.specs.Linked.{node_at, IsFork, left_child, right_child};
+
+use segment::Seg;
+use std::alloc::AllocError;
+
+/// A node of a tree: its segment, and what is below it.
+#[derive(Clone, Copy, Drop)]
+pub struct Node {
+    pub seg: Seg,
+    pub below: Below,
+}
+
+/// What is below a node.
+#[derive(Clone, Copy, Drop)]
+pub enum Below {
+    /// The readings of a leaf, as many as its segment has; the rest is 0.
+    Readings([i32; 16]),
+    /// The places of the left and of the right child.
+    Children(u32, u32),
+}
+
+/// Adds a node, and answers its place.
+pub(crate) fn push(nodes: &mut Vec<Node>, node: Node) -> Result<u32, AllocError>
+    requires { length nodes.old.items < 2 ^ 32 }
+    ensures ok { IfOk result (λ p. (p ≡ length nodes.old.items) × (nodes.new.items ≡ nodes.old.items ++ node ∷ [])) }
+    ensures err { OnErr result (nodes.new.items ≡ nodes.old.items) }
+{
+    let place = nodes.len() as u32;
+    nodes.push(node)?;
+    Ok(place)
+}
+
+/// The places of a fork's children.
+pub(crate) fn children(nodes: &[Node], place: u32) -> (u32, u32)
+    requires within { place < length nodes.now }
+    requires fork { IsFork (node_at nodes.now place).below }
+    ensures left { result.0 ≡ left_child (node_at nodes.now place).below }
+    ensures right { result.1 ≡ right_child (node_at nodes.now place).below }
+{
+    match nodes[place as usize].below {
+        Below::Children(left, right) => (left, right),
+        Below::Readings(_) => unreachable!(),
+    }
+}
+
+/// A leaf's readings, with 0 behind them.
+pub(crate) fn block(xs: &[i32]) -> [i32; 16]
+    requires { length xs.now ≤ 16 }
+    ensures front { take (length xs.now) result ≡ xs.now }
+    ensures len { length xs.now ≤ length result }
+{
+    let mut items = [0; 16];
+    items[..xs.len()].copy_from_slice(xs);
+    items
+}

@@ -1,0 +1,10 @@
+use Rattle.std.proofs.Common.{◌≡◌, ◌^◌, ◌≤◌}
+use Rattle.semantics.specs.Sums.{most_below}
+use Rattle.segment.specs.Measure.{magnitude_at}
+use Rattle.segment.proofs.measures.spread_of.Given as goal
+
+abbrev pub invariant-loop-i : goal.invariant-loop-i
+invariant-loop-i l = record {
+  most : l.most ≡ most_below (magnitude_at l.xs) l.i;
+  small : l.most ≤ 10 ^ 9;
+}

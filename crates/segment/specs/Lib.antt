@@ -1,0 +1,5 @@
+pub mod Fit
+pub mod Measure
+pub mod Nodes
+pub mod Shape
+pub mod Tree

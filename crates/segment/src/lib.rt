@@ -1,0 +1,20 @@
+//! Segments: a curve over readings, and how far it is from them; and the shape of the trees that they make.
+#![tactic(auto)]
+
+mod curves;
+mod fitting;
+mod measures;
+mod node_access;
+mod sanity;
+mod segments;
+mod shape;
+#[cfg(test)]
+mod tests;
+
+pub use curves::Curve;
+pub use fitting::fit;
+pub use measures::{measure, unit};
+pub use node_access::{Children, NodeErr, Nodes};
+pub use sanity::{is_sane, true_is_sane};
+pub use segments::{Measures, Seg};
+pub use shape::split;

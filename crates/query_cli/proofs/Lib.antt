@@ -5,3 +5,5 @@ pub mod PlaceLaws
 pub mod RowLaws
 pub mod ExpandLaws
 pub mod WorkedCuts
+pub mod ReplyTexts
+pub mod SumLines

@@ -1,5 +1,6 @@
 -- What the words and the files call for, and what is written.
 use Rattle.std.specs.Prelude.{◌≡◌, ◌⊎◌, ◌≤◌, ◌++◌, ℕ, Bool, List, length, Option, Some, None, Result, Ok, Err, ◌||◌, ◌&&◌, nat_lt, if◌then◌else◌, ℤ, pos, int_lt, int_le, ◌-ℤ◌, ◌≤ℤ◌}
+use Rattle.std.specs.Io.KnownBytes.{Appends}
 use Rattle.semantics.specs.Files.{Files, IfTold, file_of}
 use Rattle.semantics.specs.Readings.{from_zero, plain_sum}
 use Rattle.series_csv.specs.Column.{column_of}
@@ -95,3 +96,7 @@ IsText files command text = IsAnswer files command text ⊎ ((s : Status) × IsR
 pub record IsFront (files : Option Files) (command : Option Command) (front : List ℕ) : Type 0 where
   pub rest : List ℕ
   pub whole : IsText files command (front ++ rest)
+
+-- the output grew by a text of which P holds
+abbrev pub Grew : Option (List ℕ) → Option (List ℕ) → (List ℕ → Type 0) → Type 0
+Grew before after P = (text : List ℕ) × P text × Appends before after text

@@ -1,5 +1,7 @@
 -- The words of a command line as a command.
-use Rattle.std.specs.Prelude.{ℕ, Bool, List, [], length, Option, Some, None, ◌==◌, ◌&&◌, not, nat_le, if◌then◌else◌, slice_index_or, bytes_eq, codes, ℤ, unsigned_abs}
+use Rattle.std.specs.Prelude.{ℕ, Bool, List, [], length, Option, Some, None, ◌==◌, ◌&&◌, not, nat_le, if◌then◌else◌, slice_index_or, bytes_eq, codes, map, string_bytes, ℤ, unsigned_abs}
+use Rattle.std.specs.declared.string.String.{String}
+use Rattle.std.specs.declared.alloc.Global.{Global}
 use Rattle.semantics.specs.Numbers.{number_in, number_of, are_digits}
 
 -- the interval of the sum of a column over the positions from one up to another, no wider than a budget
@@ -64,3 +66,7 @@ command_of words =
     if is_once words then
     with_numbers (word words 1) (word words 2) (digit_up_to most_scale (word words 3)) (digits_up_to most_budget (word words 4)) (whole_up_to most_position (word words 5)) (whole_up_to most_position (word words 6))
     else None
+
+-- the same, by the words as the program has them
+abbrev pub command_in : List (String Global) → Option Command
+command_in words = command_of (map string_bytes words)

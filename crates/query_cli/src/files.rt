@@ -20,9 +20,9 @@ pub(crate) fn read_csv<'a, S: Shelf>(
     ensures few { IfOk result (λ v. length v.items ≤ most_csv) }
     ensures held { IfTold (S.files shelf.old) (λ m. IfOk result (λ v. file_of m name.now ≡ Some v.items)) }
     ensures cause { IfErr result (λ s. IfRefused s (IsUnread (S.files shelf.old) (S.read_faults shelf.old) (S.read_faults shelf.new) name.now)) }
-    ensures later { S.read_faults shelf.old ≤ S.read_faults shelf.new }
-    ensures replaces { S.replace_faults shelf.new ≡ S.replace_faults shelf.old }
-    ensures files { S.files shelf.new ≡ S.files shelf.old }
+    ensures read_faults_stay { S.read_faults shelf.old ≤ S.read_faults shelf.new }
+    ensures replace_faults_stay { S.replace_faults shelf.new ≡ S.replace_faults shelf.old }
+    ensures files_stay { S.files shelf.new ≡ S.files shelf.old }
 {
     let mut bytes = Vec::new(alloc);
     match shelf.fetch(name, MOST_CSV, &mut bytes) {

@@ -140,9 +140,9 @@ pub(crate) fn answer_once<'a, S: Shelf>(
 ) -> Result<String, Stop<'a>>
     ensures ok { IfOk result (λ t. IsOnceAnswer (S.files shelf.old) (once_view command.now) (string_bytes t)) }
     ensures cause { IfErr result (λ s. IfRefused s (IsCause (S.files shelf.old) (S.read_faults shelf.old) (S.read_faults shelf.new) (Some (once (once_view command.now))))) }
-    ensures later { S.read_faults shelf.old ≤ S.read_faults shelf.new }
-    ensures replaces { S.replace_faults shelf.new ≡ S.replace_faults shelf.old }
-    ensures files { S.files shelf.new ≡ S.files shelf.old }
+    ensures read_faults_stay { S.read_faults shelf.old ≤ S.read_faults shelf.new }
+    ensures replace_faults_stay { S.replace_faults shelf.new ≡ S.replace_faults shelf.old }
+    ensures files_stay { S.files shelf.new ≡ S.files shelf.old }
 {
     let bytes = read_csv(alloc, shelf, command.csv)?;
     let text = answer_in_file(alloc, command, &bytes)?;

@@ -1,10 +1,10 @@
 // What is written for a command, with its status.
 
-ghost use Rattle.std.specs.Prelude.{◌≡◌, ◌≤◌, IfOk, IfErr, None, map, string_bytes};
+ghost use Rattle.std.specs.Prelude.{◌≡◌, ◌≤◌, IfOk, IfErr, None, string_bytes};
 ghost use Rattle.semantics.specs.Files.{IfTold};
 ghost use Rattle.query_cli.specs.Answers.{IsAnswer, refusal_of};
 ghost use Rattle.query_cli.specs.Causes.{IfRefused, IsCause, Replies};
-ghost use Rattle.query_cli.specs.Commands.{command_of};
+ghost use Rattle.query_cli.specs.Commands.{command_in};
 ghost use Rattle.query_cli.specs.Lines.{csv_line, line_of};
 ghost use Rattle.query_cli.specs.Refusals.{domain, status_of};
 ghost use Rattle.query_cli.specs.Views.{refusal_view};
@@ -91,12 +91,12 @@ fn answer<'a, S: Shelf>(
     words: &'a [String],
     shelf: &mut S,
 ) -> Result<String, Stop<'a>>
-    ensures ok { IfOk result (λ t. IsAnswer (S.files shelf.old) (command_of (map string_bytes words.now)) (string_bytes t)) }
-    ensures told { IfOk result (λ _. IfTold (S.files shelf.old) (λ m. refusal_of m (command_of (map string_bytes words.now)) ≡ None)) }
-    ensures cause { IfErr result (λ s. IfRefused s (IsCause (S.files shelf.old) (S.read_faults shelf.old) (S.read_faults shelf.new) (command_of (map string_bytes words.now)))) }
-    ensures later { S.read_faults shelf.old ≤ S.read_faults shelf.new }
-    ensures replaces { S.replace_faults shelf.new ≡ S.replace_faults shelf.old }
-    ensures files { S.files shelf.new ≡ S.files shelf.old }
+    ensures ok { IfOk result (λ t. IsAnswer (S.files shelf.old) (command_in words.now) (string_bytes t)) }
+    ensures told { IfOk result (λ _. IfTold (S.files shelf.old) (λ m. refusal_of m (command_in words.now) ≡ None)) }
+    ensures cause { IfErr result (λ s. IfRefused s (IsCause (S.files shelf.old) (S.read_faults shelf.old) (S.read_faults shelf.new) (command_in words.now))) }
+    ensures read_faults_stay { S.read_faults shelf.old ≤ S.read_faults shelf.new }
+    ensures replace_faults_stay { S.replace_faults shelf.new ≡ S.replace_faults shelf.old }
+    ensures files_stay { S.files shelf.new ≡ S.files shelf.old }
 {
     let Some(command) = read_command(words) else {
         return Err(Stop::Refused(Refusal::Usage));
@@ -112,10 +112,10 @@ pub(crate) fn reply_to<S: Shelf>(
     words: &[String],
     shelf: &mut S,
 ) -> Result<Reply, AllocError>
-    ensures said { IfOk result (Replies (S.files shelf.old) (S.read_faults shelf.old) (S.read_faults shelf.new) (command_of (map string_bytes words.now))) }
-    ensures later { S.read_faults shelf.old ≤ S.read_faults shelf.new }
-    ensures replaces { S.replace_faults shelf.new ≡ S.replace_faults shelf.old }
-    ensures files { S.files shelf.new ≡ S.files shelf.old }
+    ensures said { IfOk result (Replies (S.files shelf.old) (S.read_faults shelf.old) (S.read_faults shelf.new) (command_in words.now)) }
+    ensures read_faults_stay { S.read_faults shelf.old ≤ S.read_faults shelf.new }
+    ensures replace_faults_stay { S.replace_faults shelf.new ≡ S.replace_faults shelf.old }
+    ensures files_stay { S.files shelf.new ≡ S.files shelf.old }
 {
     match answer(alloc, words, shelf) {
         Ok(text) => Ok(Reply {

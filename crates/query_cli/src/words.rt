@@ -1,7 +1,7 @@
 // The words of a command line.
 
 ghost use Rattle.std.specs.Prelude.{◌≡◌, ◌<◌, length, map, option_map, string_bytes};
-ghost use Rattle.query_cli.specs.Commands.{command_of, is_once, word};
+ghost use Rattle.query_cli.specs.Commands.{command_in, is_once, word};
 ghost use Rattle.query_cli.specs.Views.{command_view};
 
 use crate::command::{Command, Once};
@@ -30,7 +30,7 @@ fn has_once_form(words: &[String]) -> bool
 /// The command that the words spell.
 #[tactic(auto, unfolding(crate::specs::Commands::command_of))]
 pub(crate) fn read_command(words: &[String]) -> Option<Command<'_>>
-    ensures { option_map command_view result ≡ command_of (map string_bytes words.now) }
+    ensures { option_map command_view result ≡ command_in words.now }
 {
     if !has_once_form(words) {
         return None;

@@ -1,4 +1,5 @@
 pub mod Facts
 pub mod NameFields
 pub mod Refusals
+pub mod Sizes
 pub mod Terms

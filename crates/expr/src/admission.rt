@@ -17,7 +17,8 @@ use crate::measures::{MOST, domain_bounds, rank};
 use crate::name::Name;
 use crate::size::{extent, size_over};
 
-/// Why a query is refused. Sums are numbered from 1, from left to right. Nodes are numbers, sums and operators, numbered from 1, each behind its parts.
+/// Why a query is refused. Sums are numbered from 1, from left to right. Nodes are numbers, sums and operators, numbered
+/// from 1, each behind its parts.
 #[derive(Clone, Copy, Debug, PartialEq, Eq)]
 pub enum AdmitErr {
     /// The first name that no fact is of.
@@ -43,12 +44,13 @@ fn unknown_in_series(t: &Series, facts: &[Fact]) -> Option<Name>
             }
         }
         Series::Const { .. } | Series::Bare(_) => None,
-        Series::Plus(u, v) | Series::Minus(u, v) | Series::Times(u, v) => match unknown_in_series(
-            u, facts,
-        ) {
-            Some(name) => Some(name),
-            None => unknown_in_series(v, facts),
-        },
+        Series::Plus(u, v) | Series::Minus(u, v) | Series::Times(u, v) => {
+            let left = unknown_in_series(u, facts);
+            match left {
+                Some(name) => Some(name),
+                None => unknown_in_series(v, facts),
+            }
+        }
         Series::Shift(u, _) => unknown_in_series(u, facts),
     }
 }
@@ -75,9 +77,11 @@ fn test_ranks(q: &Query, first: u32) -> Result<u32, AdmitErr>
     requires plain { IsPlain (query_term_of q.now) }
     requires names { most_names (query_term_of q.now) ≤ 32 }
     requires room { first + length (sums_of (query_term_of q.now)) < 2 ^ 32 }
-    ensures passed { IfOk result (λ next. first_refusal rank_rule first (sums_of (query_term_of q.now)) ≡ None) }
+    ensures passed { IfOk result (λ next.
+        first_refusal rank_rule first (sums_of (query_term_of q.now)) ≡ None) }
     ensures next { IfOk result (λ next. next ≡ first + length (sums_of (query_term_of q.now))) }
-    ensures refused { IfErr result (λ e. first_refusal rank_rule first (sums_of (query_term_of q.now)) ≡ Some (refusal_by e)) }
+    ensures refused { IfErr result (λ e.
+        first_refusal rank_rule first (sums_of (query_term_of q.now)) ≡ Some (refusal_by e)) }
 {
     match q {
         Query::Number(_) => Ok(first),
@@ -107,7 +111,8 @@ fn is_outside(bounds: Bounds, domain: Bounds) -> bool
 fn domain_refusal(t: &Series, bounds: Bounds, facts: &[Fact], sum: u32) -> Option<AdmitErr>
     requires depth { series_depth (term_of t.now) ≤ 65 }
     requires near { IsNearSeries (term_of t.now) }
-    ensures { option_map refusal_by result ≡ domain_rule (facts_of facts.now) sum (record { series = term_of t.now; range = Some (range_of bounds) }) }
+    ensures { option_map refusal_by result
+        ≡ domain_rule (facts_of facts.now) sum (record { series = term_of t.now; range = Some (range_of bounds) }) }
 {
     let domain = domain_bounds(t, facts);
     if is_outside(bounds, domain) {
@@ -128,9 +133,11 @@ fn test_domains(q: &Query, facts: &[Fact], first: u32) -> Result<u32, AdmitErr>
     requires depth { query_depth (query_term_of q.now) ≤ 64 }
     requires near { IsNearQuery (query_term_of q.now) }
     requires room { first + length (sums_of (query_term_of q.now)) < 2 ^ 32 }
-    ensures passed { IfOk result (λ next. first_refusal (domain_rule (facts_of facts.now)) first (sums_of (query_term_of q.now)) ≡ None) }
+    ensures passed { IfOk result (λ next.
+        first_refusal (domain_rule (facts_of facts.now)) first (sums_of (query_term_of q.now)) ≡ None) }
     ensures next { IfOk result (λ next. next ≡ first + length (sums_of (query_term_of q.now))) }
-    ensures refused { IfErr result (λ e. first_refusal (domain_rule (facts_of facts.now)) first (sums_of (query_term_of q.now)) ≡ Some (refusal_by e)) }
+    ensures refused { IfErr result (λ e.
+        first_refusal (domain_rule (facts_of facts.now)) first (sums_of (query_term_of q.now)) ≡ Some (refusal_by e)) }
 {
     match q {
         Query::Number(_) => Ok(first),
@@ -153,8 +160,10 @@ fn sum_bound(t: &Series, bounds: Option<Bounds>, facts: &[Fact]) -> Option<u128>
     requires rank { rank_of (term_of t.now) ≤ 2 }
     requires depth { series_depth (term_of t.now) ≤ 65 }
     requires near { IsNearSeries (term_of t.now) }
-    ensures great { is_none result ≡ is_too_great (facts_of facts.now) (sum (term_of t.now) (option_map range_of bounds)) }
-    ensures bound { IfSome result (λ bound. bound ≡ bound_of (facts_of facts.now) (sum (term_of t.now) (option_map range_of bounds))) }
+    ensures great { is_none result
+        ≡ is_too_great (facts_of facts.now) (sum (term_of t.now) (option_map range_of bounds)) }
+    ensures bound { IfSome result (λ bound.
+        bound ≡ bound_of (facts_of facts.now) (sum (term_of t.now) (option_map range_of bounds))) }
     ensures few { IfSome result (λ bound. bound ≤ 2 ^ 125) }
 {
     let n = extent(t, bounds, facts);
@@ -174,7 +183,8 @@ struct Tested {
 
 fn node_bound(bound: u128, node: u32) -> Result<Tested, AdmitErr>
     requires { node + 1 < 2 ^ 32 }
-    ensures passed { IfOk result (λ tested. (tested.next ≡ node + 1) × (tested.bound ≡ bound) × (bound ≤ 2 ^ 125)) }
+    ensures passed { IfOk result (λ tested.
+        (tested.next ≡ node + 1) × (tested.bound ≡ bound) × (bound ≤ 2 ^ 125)) }
     ensures refused { IfErr result (λ e. (2 ^ 125 < bound) × (e ≡ AdmitErr.Range node)) }
 {
     if bound <= MOST {
@@ -189,7 +199,8 @@ fn node_bound(bound: u128, node: u32) -> Result<Tested, AdmitErr>
 
 fn product_bound(left: u128, right: u128, node: u32) -> Result<Tested, AdmitErr>
     requires { node + 1 < 2 ^ 32 }
-    ensures passed { IfOk result (λ tested. (tested.next ≡ node + 1) × (tested.bound ≡ left * right) × (left * right ≤ 2 ^ 125)) }
+    ensures passed { IfOk result (λ tested.
+        (tested.next ≡ node + 1) × (tested.bound ≡ left * right) × (left * right ≤ 2 ^ 125)) }
     ensures refused { IfErr result (λ e. (2 ^ 125 < left * right) × (e ≡ AdmitErr.Range node)) }
 {
     match left.checked_mul(right) {
@@ -206,10 +217,13 @@ fn test_bounds(q: &Query, facts: &[Fact], first: u32) -> Result<Tested, AdmitErr
     requires near { IsNearQuery (query_term_of q.now) }
     requires ranks { HasLowRanks (query_term_of q.now) }
     requires room { first + length (nodes_of (query_term_of q.now)) < 2 ^ 32 }
-    ensures passed { IfOk result (λ tested. first_refusal (range_rule (facts_of facts.now)) first (nodes_of (query_term_of q.now)) ≡ None) }
+    ensures passed { IfOk result (λ tested.
+        first_refusal (range_rule (facts_of facts.now)) first (nodes_of (query_term_of q.now)) ≡ None) }
     ensures next { IfOk result (λ tested. tested.next ≡ first + length (nodes_of (query_term_of q.now))) }
-    ensures bound { IfOk result (λ tested. (tested.bound ≡ bound_of (facts_of facts.now) (query_term_of q.now)) × (tested.bound ≤ 2 ^ 125)) }
-    ensures refused { IfErr result (λ e. first_refusal (range_rule (facts_of facts.now)) first (nodes_of (query_term_of q.now)) ≡ Some (refusal_by e)) }
+    ensures bound { IfOk result (λ tested. tested.bound ≡ bound_of (facts_of facts.now) (query_term_of q.now)) }
+    ensures few { IfOk result (λ tested. tested.bound ≤ 2 ^ 125) }
+    ensures refused { IfErr result (λ e.
+        first_refusal (range_rule (facts_of facts.now)) first (nodes_of (query_term_of q.now)) ≡ Some (refusal_by e)) }
 {
     match q {
         Query::Number(v) => {
@@ -239,7 +253,8 @@ fn test_bounds(q: &Query, facts: &[Fact], first: u32) -> Result<Tested, AdmitErr
     }
 }
 
-/// Admits a plain query within the limits, or answers the first refusal: of its names, then of the ranks of its sums, then of their ranges, then of the magnitudes of its nodes.
+/// Admits a plain query within the limits, or answers the first refusal: of its names, then of the ranks of its sums,
+/// then of their ranges, then of the magnitudes of its nodes.
 pub fn admit(q: &Query, facts: &[Fact]) -> Result<(), AdmitErr>
     requires plain { IsPlain (query_term_of q.now) }
     requires limits { IsWithinLimits (query_term_of q.now) }

@@ -85,7 +85,8 @@ pub(crate) fn domain_bounds(t: &Series, facts: &[Fact]) -> Bounds
     }
 }
 
-/// The positions at which an expression has a value, from the first to before the second; an empty domain is answered as its start twice.
+/// The positions at which an expression has a value, from the first to before the second; an empty domain is answered as
+/// its start twice.
 pub fn domain(t: &Series, facts: &[Fact]) -> (i64, i64)
     requires depth { series_depth (term_of t.now) ≤ 65 }
     requires near { IsNearSeries (term_of t.now) }
@@ -109,7 +110,8 @@ fn constant_units(v: i128) -> Option<u128>
     within(2 * magnitude)
 }
 
-/// The units of an expression: a bound on its values, with room for the errors of segments. None where they or those of a part pass 2^125.
+/// The units of an expression: a bound on its values, with room for the errors of segments. None where they or those of
+/// a part pass 2^125.
 pub fn h_units(t: &Series, facts: &[Fact]) -> Option<u128>
     ensures great { is_none result ≡ some_part (has_great_units (greatest_at (facts_of facts.now))) (term_of t.now) }
     ensures units { IfSome result (λ units. units ≡ units_of (greatest_at (facts_of facts.now)) (term_of t.now)) }

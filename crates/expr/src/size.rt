@@ -1,19 +1,20 @@
 //! The rank and the units of an expression over so many positions, where no part is too great.
 
 ghost use Rattle.std.specs.Prelude.{◌≡◌, ◌≤◌, ◌<◌, ◌+◌, ◌*◌, ◌^◌, max, true, unsigned_abs, IfSome, MatchOption};
+ghost use Rattle.std.specs.Option.{option_map};
 ghost use Rattle.semantics.specs.Admission.{extent_of, greatest_at, longest};
-ghost use Rattle.semantics.specs.Limits.{series_depth, IsNearRange, IsNearSeries};
+ghost use Rattle.semantics.specs.Limits.{series_depth, IsNearSeries};
 ghost use Rattle.semantics.specs.Measures.{is_great_over, rank_of, some_part};
 ghost use Rattle.semantics.specs.Readings.{positions_in};
 ghost use Rattle.expr.specs.Facts.{facts_of};
-ghost use Rattle.expr.specs.Refusals.{IsSizeOver};
+ghost use Rattle.expr.specs.Sizes.{IsSizeOver};
 ghost use Rattle.expr.specs.Terms.{range_of, term_of};
-ghost use Rattle.std.specs.Option.{option_map};
 
 use crate::expression::{Bounds, Series};
 use crate::facts::{Fact, count_at, greatest_at};
 use crate::measures::{MOST, domain_bounds};
 
+/// The rank and the units of an expression.
 #[derive(Clone, Copy)]
 pub(crate) struct Size {
     pub(crate) rank: u32,
@@ -24,7 +25,8 @@ impl Size {
     /// Twice the units over n positions, and 1 at least; none where that passes 2^125.
     pub(crate) fn bound_over(self, n: u64) -> Option<u128>
         requires { n * self.units ≤ 2 ^ 125 }
-        ensures { MatchOption result (2 ^ 125 < max 1 (2 * n * self.units)) (λ bound. (bound ≡ max 1 (2 * n * self.units)) × (bound ≤ 2 ^ 125)) }
+        ensures { MatchOption result (2 ^ 125 < max 1 (2 * n * self.units))
+            (λ bound. (bound ≡ max 1 (2 * n * self.units)) × (bound ≤ 2 ^ 125)) }
     {
         let bound = (2 * (u128::from(n) * self.units)).max(1);
         if bound <= MOST { Some(bound) } else { None }
@@ -43,12 +45,14 @@ fn scale(rank: u32) -> u128
     }
 }
 
+/// The size with this rank and these units, or none where they are too great over n positions.
 #[tactic(auto, using(crate::proofs::Products::products))]
 fn bounded(rank: u32, units: u128, n: u64) -> Option<Size>
     requires rank { rank ≤ 2 }
     requires some { 1 ≤ n }
     ensures size { IfSome result (λ size. (size.rank ≡ rank) × (size.units ≡ units)) }
-    ensures fits { MatchOption result (2 ^ 125 < 16384 ^ rank * n * units) (λ size. 16384 ^ rank * n * units ≤ 2 ^ 125) }
+    ensures fits { MatchOption result (2 ^ 125 < 16384 ^ rank * n * units)
+        (λ size. 16384 ^ rank * n * units ≤ 2 ^ 125) }
     ensures few { IfSome result (λ size. units ≤ 2 ^ 125) }
     ensures spread { IfSome result (λ size. n * units ≤ 2 ^ 125) }
 {
@@ -62,7 +66,8 @@ fn bounded(rank: u32, units: u128, n: u64) -> Option<Size>
 
 fn constant_size(v: i128, n: u64) -> Option<Size>
     requires { 1 ≤ n }
-    ensures { MatchOption result (2 ^ 125 < n * (2 * unsigned_abs v)) (λ size. (size.rank ≡ 0) × (size.units ≡ 2 * unsigned_abs v) × (n * (2 * unsigned_abs v) ≤ 2 ^ 125)) }
+    ensures { MatchOption result (2 ^ 125 < n * (2 * unsigned_abs v))
+        (λ size. (size.rank ≡ 0) × (size.units ≡ 2 * unsigned_abs v) × (n * (2 * unsigned_abs v) ≤ 2 ^ 125)) }
 {
     bounded(0, v.unsigned_abs().checked_mul(2)?, n)
 }
@@ -71,8 +76,10 @@ fn constant_size(v: i128, n: u64) -> Option<Size>
 fn product_size(left: Size, right: Size, n: u64) -> Option<Size>
     requires rank { left.rank + right.rank ≤ 2 }
     requires some { 1 ≤ n }
-    ensures size { IfSome result (λ size. (size.rank ≡ left.rank + right.rank) × (size.units ≡ left.units * right.units)) }
-    ensures fits { MatchOption result (2 ^ 125 < 16384 ^ (left.rank + right.rank) * n * (left.units * right.units)) (λ size. 16384 ^ (left.rank + right.rank) * n * (left.units * right.units) ≤ 2 ^ 125) }
+    ensures size { IfSome result (λ size.
+        (size.rank ≡ left.rank + right.rank) × (size.units ≡ left.units * right.units)) }
+    ensures fits { let product = 16384 ^ (left.rank + right.rank) * n * (left.units * right.units)
+        in MatchOption result (2 ^ 125 < product) (λ size. product ≤ 2 ^ 125) }
     ensures few { IfSome result (λ size. left.units * right.units ≤ 2 ^ 125) }
     ensures spread { IfSome result (λ size. n * (left.units * right.units) ≤ 2 ^ 125) }
 {
@@ -82,10 +89,12 @@ fn product_size(left: Size, right: Size, n: u64) -> Option<Size>
     }
 }
 
+/// The size of an expression, or none where a part of it is too great over n positions.
 pub(crate) fn size_over(t: &Series, facts: &[Fact], n: u64) -> Option<Size>
     requires rank { rank_of (term_of t.now) ≤ 2 }
     requires some { 1 ≤ n }
-    ensures { MatchOption result (some_part (is_great_over (greatest_at (facts_of facts.now)) n) (term_of t.now) ≡ true) (IsSizeOver (greatest_at (facts_of facts.now)) n (term_of t.now)) }
+    ensures { let greatest = greatest_at (facts_of facts.now)
+        in MatchOption result (some_part (is_great_over greatest n) (term_of t.now) ≡ true) (IsSizeOver greatest n (term_of t.now)) }
 {
     match t {
         Series::Base(name) => bounded(1, 128 * u128::from(greatest_at(facts, name).max(1)), n),
@@ -111,9 +120,10 @@ fn longest(t: &Series, facts: &[Fact]) -> u32
     match t {
         Series::Base(name) => count_at(facts, name),
         Series::Const { .. } | Series::Bare(_) => 0,
-        Series::Plus(u, v) | Series::Minus(u, v) | Series::Times(u, v) => longest(u, facts).max(
-            longest(v, facts),
-        ),
+        Series::Plus(u, v) | Series::Minus(u, v) | Series::Times(u, v) => {
+            let left = longest(u, facts);
+            left.max(longest(v, facts))
+        }
         Series::Shift(u, _) => longest(u, facts),
     }
 }

@@ -1,9 +1,18 @@
-//! Polynomials over whole numbers.
+//! Polynomials over whole numbers, exact at every position.
+//!
+//! The norm of a polynomial at `m` is its value there with the magnitude of each coefficient. It bounds the magnitude
+//! of the value at every position up to `m`, and for `m` from 1 on that of each coefficient. Operations take the `m`
+//! at which their arguments are known to be small, so that no number on the way leaves 128 bits.
 #![tactic(auto)]
+
+mod exact;
 
 ghost use Rattle.std.specs.Prelude.{◌≡◌, ℕ, ◌+◌, ◌-◌, ◌*◌, ◌^◌, ◌<◌, ◌≤◌, max, ℤ, pos, ◌+ℤ◌, ◌-ℤ◌, ◌*ℤ◌, length, List, unsigned_abs, slice_index_or};
 ghost use Rattle.poly.specs.Raised.{IsRaised};
-ghost use Rattle.poly.specs.Terms.{value_at, norm_at, size_of, degree_of, plus_terms, minus_terms, scaled_terms, raised_terms};
+ghost use Rattle.poly.specs.Terms.{value_at, norm_at, size_of, degree_of};
+
+use exact::nested;
+pub use exact::{minus, plus, times};
 
 /// How many coefficients a polynomial has.
 pub const N_TERMS: usize = 5;
@@ -12,33 +21,6 @@ pub const N_TERMS: usize = 5;
 #[derive(Clone, Copy, Debug, Drop, PartialEq, Eq)]
 pub struct Poly {
     pub c: [i128; N_TERMS],
-}
-
-/// The sum of two numbers.
-pub fn plus(a: i128, b: i128) -> i128
-    requires { unsigned_abs a + unsigned_abs b ≤ 2 ^ 126 }
-    ensures value { result ≡ a +ℤ b }
-    ensures bound { unsigned_abs result ≤ unsigned_abs a + unsigned_abs b }
-{
-    a + b
-}
-
-/// The difference of two numbers.
-pub fn minus(a: i128, b: i128) -> i128
-    requires { unsigned_abs a + unsigned_abs b ≤ 2 ^ 126 }
-    ensures value { result ≡ a -ℤ b }
-    ensures bound { unsigned_abs result ≤ unsigned_abs a + unsigned_abs b }
-{
-    a - b
-}
-
-/// The product of two numbers.
-pub fn times(a: i128, b: i128) -> i128
-    requires { unsigned_abs a * unsigned_abs b ≤ 2 ^ 126 }
-    ensures value { result ≡ a *ℤ b }
-    ensures bound { unsigned_abs result ≡ unsigned_abs a * unsigned_abs b }
-{
-    a * b
 }
 
 impl Poly {
@@ -62,7 +44,7 @@ impl Poly {
         quadratic(i128::from(a), i128::from(b), i128::from(c))
     }
 
-    /// The value at position `i`.
+    /// The value at position `i`, by nested multiplication.
     pub fn eval(&self, i: u64) -> i128
         requires { norm_at self.now.c (max 1 i) ≤ 2 ^ 125 }
         ensures value { result ≡ value_at self.now.c (pos i) }
@@ -70,7 +52,7 @@ impl Poly {
     {
         let mut sum = 0;
         for k in (0..N_TERMS).rev() {
-            sum = plus(self.c[k], times(sum, i128::from(i)));
+            sum = nested(self.c[k], i, sum);
         }
         sum
     }
@@ -81,7 +63,7 @@ impl Poly {
         requires left { norm_at self.now.c m ≤ 2 ^ 125 }
         requires right { norm_at other.now.c m ≤ 2 ^ 125 }
         ensures value { (x : ℤ) → value_at result.c x ≡ value_at self.now.c x +ℤ value_at other.now.c x }
-        ensures norm { (k : ℕ) → norm_at result.c k ≤ norm_at self.now.c k + norm_at other.now.c k }
+        ensures norm { (n : ℕ) → norm_at result.c n ≤ norm_at self.now.c n + norm_at other.now.c n }
         ensures size { size_of result.c ≤ max (size_of self.now.c) (size_of other.now.c) }
     {
         let mut c = [0; N_TERMS];
@@ -97,7 +79,7 @@ impl Poly {
         requires left { norm_at self.now.c m ≤ 2 ^ 125 }
         requires right { norm_at other.now.c m ≤ 2 ^ 125 }
         ensures value { (x : ℤ) → value_at result.c x ≡ value_at self.now.c x -ℤ value_at other.now.c x }
-        ensures norm { (k : ℕ) → norm_at result.c k ≤ norm_at self.now.c k + norm_at other.now.c k }
+        ensures norm { (n : ℕ) → norm_at result.c n ≤ norm_at self.now.c n + norm_at other.now.c n }
         ensures size { size_of result.c ≤ max (size_of self.now.c) (size_of other.now.c) }
     {
         self.add(&other.scale(-1, m), m)
@@ -119,6 +101,23 @@ impl Poly {
         Poly { c }
     }
 
+    /// The product, from the last coefficient of the left factor down.
+    pub fn mul(&self, other: &Poly, m: u64) -> Poly
+        requires place { 1 ≤ m }
+        requires small { norm_at self.now.c m * norm_at other.now.c m ≤ 2 ^ 125 }
+        requires degree { degree_of self.now.c + degree_of other.now.c < N_TERMS }
+        ensures value { (x : ℤ) → value_at result.c x ≡ value_at self.now.c x *ℤ value_at other.now.c x }
+        ensures norm { (n : ℕ) → norm_at result.c n ≤ norm_at self.now.c n * norm_at other.now.c n }
+        ensures degree { degree_of result.c ≤ degree_of self.now.c + degree_of other.now.c }
+    {
+        let mut product = Poly { c: [0; N_TERMS] };
+        for j in (0..N_TERMS).rev() {
+            let part = other.scale(self.c[j], m);
+            product = product.raised().add(&part, m);
+        }
+        product
+    }
+
     /// `x` times the polynomial.
     fn raised(&self) -> Poly
         requires { size_of self.now.c < N_TERMS }
@@ -131,23 +130,6 @@ impl Poly {
         Poly { c }
     }
 
-    /// The product.
-    pub fn mul(&self, other: &Poly, m: u64) -> Poly
-        requires place { 1 ≤ m }
-        requires small { norm_at self.now.c m * norm_at other.now.c m ≤ 2 ^ 125 }
-        requires degree { degree_of self.now.c + degree_of other.now.c < N_TERMS }
-        ensures value { (x : ℤ) → value_at result.c x ≡ value_at self.now.c x *ℤ value_at other.now.c x }
-        ensures norm { (n : ℕ) → norm_at result.c n ≤ norm_at self.now.c n * norm_at other.now.c n }
-        ensures degree { degree_of result.c ≤ degree_of self.now.c + degree_of other.now.c }
-    {
-        let mut product = Poly { c: [0; N_TERMS] };
-        for k in (0..N_TERMS).rev() {
-            let part = other.scale(self.c[k], m);
-            product = product.raised().add(&part, m);
-        }
-        product
-    }
-
     /// The polynomial whose value at `i` is this one's at `i + offset`.
     pub fn recentre(&self, offset: u64, m: u64) -> Poly
         requires place { 1 ≤ m }
@@ -157,25 +139,11 @@ impl Poly {
         ensures norm { norm_at result.c m ≤ norm_at self.now.c (offset + m) }
         ensures size { size_of result.c ≤ 3 }
     {
-        shifted(self.c[0], self.c[1], self.c[2], offset, m)
+        let steeper = nested(self.c[1], offset, self.c[2]);
+        let level = nested(self.c[0], offset, steeper);
+        let linear = nested(steeper, offset, self.c[2]);
+        quadratic(level, linear, self.c[2])
     }
-}
-
-/// The polynomial `a + b * x + c * x ^ 2`, moved.
-fn shifted(a: i128, b: i128, c: i128, offset: u64, m: u64) -> Poly
-    requires place { 1 ≤ m }
-    requires small { unsigned_abs a + (offset + m) * (unsigned_abs b + (offset + m) * unsigned_abs c) ≤ 2 ^ 125 }
-    ensures value { (x : ℤ) → value_at result.c x ≡ a +ℤ (x +ℤ pos offset) *ℤ (b +ℤ (x +ℤ pos offset) *ℤ c) }
-    ensures norm { norm_at result.c m ≤ unsigned_abs a + (offset + m) * (unsigned_abs b + (offset + m) * unsigned_abs c) }
-    ensures size { size_of result.c ≤ 3 }
-{
-    let far = i128::from(offset);
-    let slope = times(far, c);
-    let steeper = plus(b, slope);
-    let rise = times(far, steeper);
-    let level = plus(a, rise);
-    let linear = plus(steeper, slope);
-    quadratic(level, linear, c)
 }
 
 /// The polynomial `a + b * x + c * x ^ 2`.
@@ -189,4 +157,24 @@ fn quadratic(a: i128, b: i128, c: i128) -> Poly
     terms[1] = b;
     terms[2] = c;
     Poly { c: terms }
+}
+
+#[cfg(test)]
+mod tests {
+    use super::*;
+
+    /// By hand: `10 + 3i` is 19 at 3, and `1 - 2i + 5i^2` is 40 there, 4 at 1 and 73 at 4.
+    #[test]
+    fn values(rt: HostRuntime) {
+        let line = Poly::of_three(10, 3, 0);
+        let curve = Poly::of_three(1, -2, 5);
+        assert_eq!(rt; Poly::constant(-4).eval(1000), -4);
+        assert_eq!(rt; line.eval(3), 19);
+        assert_eq!(rt; curve.eval(0), 1);
+        assert_eq!(rt; line.add(&curve, 3).eval(3), 59);
+        assert_eq!(rt; line.sub(&curve, 3).eval(3), -21);
+        assert_eq!(rt; curve.scale(-7, 3).eval(3), -280);
+        assert_eq!(rt; line.mul(&curve, 3).eval(3), 760);
+        assert_eq!(rt; curve.recentre(1, 3).eval(3), 73);
+    }
 }

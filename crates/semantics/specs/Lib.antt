@@ -1,5 +1,14 @@
+pub mod Admission
+pub mod Admitted
 pub mod Faults
 pub mod Files
+pub mod Limits
+pub mod Measures
+pub mod Names
+pub mod Plain
+pub mod Numbers
 pub mod Quotients
 pub mod Readings
 pub mod Sums
+pub mod Term
+pub mod Value

@@ -1,7 +1,7 @@
-use Rattle.std.proofs.Common.{◌≡◌, ◌-◌, ◌<◌, ◌≢◌, pos, ℤ, length, length-set, get_or, arith, SFits, rules, refl, sym, ◌∙◌, below_more, get_or-set_other, get_or-set_same, to_z, of_z}
+use Rattle.std.proofs.Common.{◌≡◌, ◌-◌, ◌<◌, ◌≢◌, pos, length, length-set, get_or, arith, SFits, rules, refl, sym, ◌∙◌, below_more, get_or-set_other, get_or-set_same}
 use Rattle.std.specs.Int.{w128}
 use Rattle.std.proofs.lemmas.Int.{to_z-of_z}
-use Rattle.poly.proofs.TermLaws.{get_or-behind, raised_is, raised}
+use Rattle.poly.proofs.Products.{get_or-behind, raised_is, raised}
 use Rattle.poly.specs.declared.TheConstants.{N_TERMS}
 use Rattle.poly.proofs.Poly.raised.Goals as goal
 

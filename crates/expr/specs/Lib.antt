@@ -1,0 +1,4 @@
+pub mod Facts
+pub mod NameFields
+pub mod Refusals
+pub mod Terms

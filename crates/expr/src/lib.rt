@@ -1,0 +1,15 @@
+//! Expressions over series, queries over their sums, and the admission of a query.
+#![tactic(auto)]
+
+mod admission;
+mod expression;
+mod facts;
+mod measures;
+mod name;
+mod size;
+
+pub use admission::AdmitErr;
+pub use expression::{Bounds, Query, Series};
+pub use facts::Fact;
+pub use measures::{domain, h_units, rank};
+pub use name::Name;

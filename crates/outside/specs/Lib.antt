@@ -1,0 +1,5 @@
+pub mod Calls
+pub mod Fetching
+pub mod MapFiles
+pub mod MemOuts
+pub mod MemShelves

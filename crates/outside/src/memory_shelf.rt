@@ -1,0 +1,119 @@
+// A shelf in memory.
+
+ghost use Rattle.std.specs.Prelude.{◌≡◌, ◌≤◌, ◌↔◌, IsTrue, IfErr, IfOk, OnOk, Some, length, option_copied};
+ghost use Rattle.semantics.specs.Faults.{Rose};
+ghost use Rattle.semantics.specs.Files.{IfTold, file_of};
+ghost use Rattle.outside.specs.Calls.{calls_after, fails_next};
+ghost use Rattle.outside.specs.Fetching.{IsFetched};
+ghost use Rattle.outside.specs.MapFiles.{files_of};
+
+use crate::failing_calls::fails_next;
+use crate::file_bytes::Bytes;
+use crate::shelves::{FetchErr, Fetched, Shelf};
+use std::alloc::Global;
+use std::collections::BTreeMap;
+
+/// A shelf in memory. Reading calls and replacing calls are each numbered from 1, and a call fails exactly where its
+/// number is listed.
+#[derive(Drop)]
+pub struct MemShelf {
+    alloc: Global,
+    files: BTreeMap<String, Bytes>,
+    fail_reads: Vec<u64>,
+    reads: u64,
+    fail_replaces: Vec<u64>,
+    replaces: u64,
+}
+
+impl MemShelf {
+    ghost use Rattle.outside.specs.MemShelves.{failing_reads, failing_replaces, files_in, reads_made, replaces_made};
+
+    /// A shelf of these files, with the numbers of the calls that are to fail.
+    pub fn new(
+        alloc: Global,
+        files: BTreeMap<String, Bytes>,
+        fail_reads: Vec<u64>,
+        fail_replaces: Vec<u64>,
+    ) -> MemShelf
+        ensures files { files_in result ≡ files_of files }
+        ensures reads { failing_reads result ≡ fail_reads.items }
+        ensures replaces { failing_replaces result ≡ fail_replaces.items }
+        ensures no_reads { reads_made result ≡ 0 }
+        ensures no_replaces { replaces_made result ≡ 0 }
+    {
+        MemShelf {
+            alloc,
+            files,
+            fail_reads,
+            reads: 0,
+            fail_replaces,
+            replaces: 0,
+        }
+    }
+
+    /// The bytes of a file.
+    #[tactic(auto, using(crate::proofs::FileLaws::file_of_map))]
+    pub fn file(&self, name: &str) -> Option<&[u8]>
+        ensures { option_copied result ≡ file_of (files_in self.now) name.now }
+    {
+        match self.files.get(name) {
+            None => None,
+            Some(bytes) => Some(bytes.as_slice()),
+        }
+    }
+}
+
+// Puts these bytes in the place of those that are there.
+fn fill(into: &mut Vec<u8>, held: &[u8]) -> Result<(), FetchErr>
+    ensures ok { OnOk result (into.new.items ≡ held.now) }
+    ensures err { IfErr result (λ e. e ≡ FetchErr.Memory) }
+{
+    into.clear();
+    match into.extend_from_slice(held) {
+        Ok(()) => Ok(()),
+        Err(_) => Err(FetchErr::Memory),
+    }
+}
+
+impl Shelf for MemShelf {
+    ghost use Rattle.outside.specs.MemShelves.{failing_reads, failing_replaces, files_in, read_faults_of, reads_made, replace_faults_of, replaces_made};
+
+    ghost files = { λ s. Some (files_in s) };
+
+    ghost read_faults = { read_faults_of };
+
+    ghost replace_faults = { replace_faults_of };
+
+    #[tactic(auto, using(crate::proofs::CallLaws::faults_stay, crate::proofs::CallLaws::fault_rises))]
+    fn fetch(&mut self, name: &str, limit: u64, into: &mut Vec<u8>) -> Result<Fetched, FetchErr>
+        ensures answer { IfOk result (λ found. IsFetched (file_of (files_in self.old) name.now) limit found into.new.items) }
+        ensures within { result ≡ Ok Fetched.Whole → length into.new.items ≤ limit }
+        ensures files_stay { files_in self.new ≡ files_in self.old }
+
+        // It fails exactly where its number is listed.
+        ensures fails { (result ≡ Err FetchErr.Failed) ↔ IsTrue (fails_next (failing_reads self.old) (reads_made self.old)) }
+        ensures failed { result ≡ Err FetchErr.Failed → Rose (read_faults_of self.old) (read_faults_of self.new) }
+        ensures read_faults_stay { read_faults_of self.old ≤ read_faults_of self.new }
+        ensures replace_faults_stay { replace_faults_of self.new ≡ replace_faults_of self.old }
+
+        // One more reading call is made.
+        ensures reads { reads_made self.new ≡ calls_after (reads_made self.old) }
+        ensures replaces_stay { replaces_made self.new ≡ replaces_made self.old }
+        ensures listed_reads_stay { failing_reads self.new ≡ failing_reads self.old }
+        ensures listed_replaces_stay { failing_replaces self.new ≡ failing_replaces self.old }
+    {
+        let fails = fails_next(&self.fail_reads, self.reads);
+        self.reads = self.reads.saturating_add(1);
+        if fails {
+            return Err(FetchErr::Failed);
+        }
+        let Some(held) = self.file(name) else {
+            return Ok(Fetched::Absent);
+        };
+        if held.len() as u64 > limit {
+            return Ok(Fetched::OverLimit);
+        }
+        fill(into, held)?;
+        Ok(Fetched::Whole)
+    }
+}

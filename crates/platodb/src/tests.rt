@@ -1,0 +1,145 @@
+// Runs of the top call over files in memory.
+
+use outside::{Bytes, MemOut, MemShelf};
+use query_cli::{Status, run};
+use std::alloc::Global;
+use std::collections::BTreeMap;
+use std::test::Fail;
+
+const ALTERNATING: &[u8] =
+    b"v\n0\n10\n0\n10\n0\n10\n0\n10\n0\n10\n0\n10\n0\n10\n0\n10\n0\n10\n0\n10\n0\n10\n0\n10\n0\n10\n0\n10\n0\n10\n0\n10\n";
+
+const MOST_CSV: usize = 1 << 26;
+
+// A shelf with the one file `a.csv`.
+fn shelf_with(alloc: Global, text: Vec<u8>, failing_reads: &[u64]) -> Result<MemShelf, Fail> {
+    let mut files = BTreeMap::new(alloc);
+    files.insert(String::from_str(alloc, "a.csv")?, Bytes::of(text))?;
+    Ok(MemShelf::new(
+        alloc,
+        files,
+        failing_reads.to_vec(alloc)?,
+        Vec::new(alloc),
+    ))
+}
+
+fn words_of(alloc: Global, line: &str) -> Result<Vec<String>, Fail> {
+    let mut words = Vec::new(alloc);
+    for word in line.split(' ') {
+        words.push(String::from_str(alloc, word)?)?;
+    }
+    Ok(words)
+}
+
+// What the line writes over the one file `a.csv`, with its status.
+fn outcome(
+    alloc: Global,
+    line: &str,
+    text: &[u8],
+    failing_reads: &[u64],
+    failing_puts: &[(u64, u64)],
+) -> Result<(Status, MemOut), Fail> {
+    let mut shelf = shelf_with(alloc, text.to_vec(alloc)?, failing_reads)?;
+    let mut out = MemOut::new(alloc, failing_puts.to_vec(alloc)?);
+    let words = words_of(alloc, line)?;
+    let status = run(alloc, &words, &mut shelf, &mut out);
+    Ok((status, out))
+}
+
+#[test]
+fn answers(rt: HostRuntime) -> Result<(), Fail> {
+    let alloc = rt.alloc();
+    for (line, text, written) in [
+        ("once a.csv v 0 320 0 32", ALTERNATING, "0 320 320 1 0\n"),
+        ("once a.csv v 0 319 0 32", ALTERNATING, "80 240 160 2 1\n"),
+        ("once a.csv v 0 0 0 32", ALTERNATING, "160 160 0 2 2\n"),
+        ("once a.csv v 0 320 3 5", ALTERNATING, "-150 170 320 1 0\n"),
+        ("once a.csv v 0 0 7 7", ALTERNATING, "0 0 0 1 0\n"),
+        ("once a.csv v 0 2 0 2", b"v\n-1\n0\n", "-2 0 2 1 0\n"),
+        ("once a.csv v 0 2 0 3", b"v\n0\n0\n1\n", "0 2 2 1 0\n"),
+        ("once a.csv v 0 0 0 1", b"v\n7\n", "7 7 0 1 0\n"),
+        ("once a.csv v 0 0 0 0", b"v\n", "0 0 0 0 0\n"),
+        ("once a.csv v 0 0 -5 -5", b"v\n7\n", "0 0 0 1 0\n"),
+    ] {
+        let (status, out) = outcome(alloc, line, text, &[], &[])?;
+        assert!(rt; out.bytes() == written.as_bytes(), "at {line}");
+        assert!(rt; status == Status::Ok, "at {line}");
+    }
+    Ok(())
+}
+
+#[test]
+fn refusals(rt: HostRuntime) -> Result<(), Fail> {
+    let alloc = rt.alloc();
+    for (line, text, written, number) in [
+        ("query s", ALTERNATING, "usage fault\n", 2),
+        ("once a.csv v 0 +1 0 32", ALTERNATING, "usage fault\n", 2),
+        ("once a.csv v 7 1 0 32", ALTERNATING, "usage fault\n", 2),
+        ("once a.csv v 00 1 0 32", ALTERNATING, "usage fault\n", 2),
+        ("once  v 0 1 0 32", ALTERNATING, "usage fault\n", 2),
+        ("once a.csv v 0 1 0 32 0", ALTERNATING, "usage fault\n", 2),
+        (
+            "once a.csv v 0 170141183460469231731687303715884105728 0 32",
+            ALTERNATING,
+            "usage fault\n",
+            2,
+        ),
+        ("once a.csv v 0 1 0 1099511627777", ALTERNATING, "usage fault\n", 2),
+        ("once b.csv v 0 1 0 32", ALTERNATING, "absent b.csv\n", 6),
+        ("once a.csv v 0 1 0 32", b"", "csv no header\n", 8),
+        ("once a.csv w 0 1 0 32", ALTERNATING, "csv no column\n", 8),
+        ("once a.csv v 0 1 0 1", b"t,v\n1,2\n3\n", "csv short 2\n", 8),
+        ("once a.csv v 0 1 0 1", b"v\n1\n2\n1e5\n", "csv bad 3\n", 8),
+        ("once a.csv v 0 1 0 1", b"v\n10000000000\n", "csv too large 1\n", 8),
+        ("once a.csv v 0 1 0 1", b"t,v\n0,\n", "csv missing first 1\n", 8),
+        ("once a.csv v 0 1 0 33", ALTERNATING, "domain 1 0 32\n", 12),
+        ("once a.csv v 0 1 2 1", ALTERNATING, "domain 1 0 32\n", 12),
+        ("once a.csv v 0 1 -1 1", ALTERNATING, "domain 1 0 32\n", 12),
+        ("once a.csv v 0 1 0 1", b"v\n", "domain 1 0 0\n", 12),
+    ] {
+        let (status, out) = outcome(alloc, line, text, &[], &[])?;
+        assert!(rt; out.bytes() == written.as_bytes(), "at {line}");
+        assert_eq!(rt; status.number(), number, "at {line}");
+    }
+    Ok(())
+}
+
+#[test]
+fn large_files(rt: HostRuntime) -> Result<(), Fail> {
+    let alloc = rt.alloc();
+    let line = "once a.csv v 0 1 0 1";
+
+    let mut records = b"v\n".to_vec(alloc)?;
+    for _ in 0..1_048_577u32 {
+        records.extend_from_slice(b"1\n")?;
+    }
+    let (status, out) = outcome(alloc, line, &records, &[], &[])?;
+    assert!(rt; out.bytes() == b"csv too long 1048577\n".as_slice());
+    assert!(rt; status == Status::BadCsv);
+
+    let bytes = vec![in alloc; b'1'; MOST_CSV + 1]?;
+    let (status, out) = outcome(alloc, line, &bytes, &[], &[])?;
+    assert!(rt; out.bytes() == b"too big a.csv\n".as_slice());
+    assert!(rt; status == Status::TooBig);
+    Ok(())
+}
+
+#[test]
+fn faults(rt: HostRuntime) -> Result<(), Fail> {
+    let alloc = rt.alloc();
+    let line = "once a.csv v 0 320 0 32";
+
+    let (status, out) = outcome(alloc, line, ALTERNATING, &[1], &[])?;
+    assert!(rt; out.bytes() == b"read fault\n".as_slice());
+    assert!(rt; status == Status::ReadFault);
+
+    let (status, out) = outcome(alloc, line, ALTERNATING, &[], &[(1, 3)])?;
+    assert!(rt; out.bytes() == b"0 3".as_slice());
+    assert!(rt; status == Status::OutFault);
+
+    // No second reading call and no second put is made.
+    let (status, out) = outcome(alloc, line, ALTERNATING, &[2], &[(2, 0)])?;
+    assert!(rt; out.bytes() == b"0 320 320 1 0\n".as_slice());
+    assert!(rt; status == Status::Ok);
+    Ok(())
+}

@@ -1,0 +1,10 @@
+pub mod Answers
+pub mod Causes
+pub mod Commands
+pub mod Cuts
+pub mod Descents
+pub mod Lines
+pub mod Refusals
+pub mod Statuses
+pub mod Views
+pub mod Rows

@@ -1,0 +1,18 @@
+//! The commands, from their words to what they print.
+#![tactic(auto)]
+
+mod command;
+mod cut;
+mod descent;
+mod files;
+mod number;
+mod once;
+mod refusal;
+mod reply;
+mod status;
+mod top;
+mod words;
+
+pub use descent::{every_budget_is_met, every_cut_holds_the_sum};
+pub use status::Status;
+pub use top::run;

@@ -1,0 +1,150 @@
+// The answer of `once`.
+
+ghost use Rattle.std.specs.Prelude.{◌≡◌, ◌≤◌, length, string_bytes, true, Some, None, Ok, Err, IfOk, IfErr, List, ℤ};
+ghost use Rattle.segment.specs.Measure.{AreReadings};
+ghost use Rattle.series_csv.specs.Column.{column_of, most_readings};
+ghost use Rattle.query_cli.specs.Answers.{IsOnceAnswer, IsSumLine, end_of, first_of, in_file, is_range_of, most_csv};
+ghost use Rattle.query_cli.specs.Causes.{IfRefused, IsCause};
+ghost use Rattle.query_cli.specs.Commands.{once};
+ghost use Rattle.query_cli.specs.Lines.{answer_line};
+ghost use Rattle.query_cli.specs.Refusals.{MayRefuseOnce};
+ghost use Rattle.query_cli.specs.Rows.{fits_of};
+ghost use Rattle.query_cli.specs.Views.{once_view};
+
+use crate::command::Once;
+use crate::descent::{Answer, descend};
+use crate::files::read_csv;
+use crate::refusal::{Refusal, Stop};
+use num_text::Memory;
+use outside::Shelf;
+use seg_tree::{Arena, TreeErr};
+use segment::Seg;
+use series_csv::{CsvErr, read_column};
+use std::alloc::{AllocError, Global};
+
+// The readings of the column.
+fn readings_of<'a>(alloc: Global, command: &Once<'a>, bytes: &[u8]) -> Result<Vec<i32>, Stop<'a>>
+    requires { length bytes.now ≤ most_csv }
+    ensures few { IfOk result (λ v. length v.items ≤ most_readings) }
+    ensures small { IfOk result (λ v. AreReadings v.items) }
+    ensures ok { IfOk result (λ v. column_of bytes.now command.now.column.now command.now.scale None ≡ Ok v.items) }
+    ensures refused { IfErr result (λ s. IfRefused s (λ r. in_file (once_view command.now) (Some bytes.now) ≡ Err r)) }
+    ensures possible { IfErr result (λ s. IfRefused s (MayRefuseOnce (once_view command.now))) }
+{
+    match read_column(alloc, bytes, command.column.as_bytes(), command.scale, None) {
+        Ok(xs) => Ok(xs),
+        Err(CsvErr::Memory) => Err(Stop::Memory),
+        Err(e) => Err(Stop::Refused(Refusal::BadCsv(e))),
+    }
+}
+
+// Whether a range has no position, or positions of `n` readings alone.
+fn is_range(n: u32, from: i64, until: i64) -> bool
+    ensures { result ≡ is_range_of n from until }
+{
+    from == until || (0 <= from && from < until && until <= i64::from(n))
+}
+
+// Room for the nodes of any one series.
+const MOST_NODES: u32 = 1 << 24;
+
+// The segments of the tree over the readings, in preorder.
+fn segments_of(alloc: Global, xs: &[i32]) -> Result<Vec<Seg>, AllocError>
+    requires few { length xs.now ≤ most_readings }
+    requires small { AreReadings xs.now }
+    ensures { IfOk result (λ segs. segs.items ≡ fits_of xs.now) }
+{
+    let mut arena = Arena::new(alloc, 0, MOST_NODES);
+    let tree = match arena.build(xs) {
+        Ok(tree) => tree,
+        Err(TreeErr::Memory) => return Err(AllocError),
+        Err(TreeErr::TooLong | TreeErr::ArenaFull) => unreachable!(),
+    };
+    match arena.segs_of(tree) {
+        Ok(segs) => Ok(segs),
+        Err(Memory) => Err(AllocError),
+    }
+}
+
+// The first position of the range and its end; a range without a position is taken to lie at 0.
+fn positions(n: u32, command: &Once<'_>) -> (u32, u32)
+    requires { is_range_of n command.now.from command.now.until ≡ true }
+    ensures first { result.0 ≡ first_of (once_view command.now) }
+    ensures end { result.1 ≡ end_of (once_view command.now) }
+    ensures order { result.0 ≤ result.1 }
+    ensures inside { result.1 ≤ n }
+{
+    if command.from < command.until {
+        (command.from as u32, command.until as u32)
+    } else {
+        (0, 0)
+    }
+}
+
+// The line of an answer.
+fn line_of(alloc: Global, answer: &Answer) -> Result<String, AllocError>
+    ensures { IfOk result (λ t. string_bytes t ≡ answer_line answer.now.lo answer.now.hi answer.now.width answer.now.nodes answer.now.opened) }
+{
+    let Answer {
+        lo,
+        hi,
+        width,
+        nodes,
+        opened,
+    } = *answer;
+    let text = format!(in alloc; "{lo} {hi} {width} {nodes} {opened}\n")?;
+    Ok(text)
+}
+
+// The line of the sum.
+fn sum_line(alloc: Global, command: &Once<'_>, xs: &[i32]) -> Result<String, AllocError>
+    requires few { length xs.now ≤ most_readings }
+    requires small { AreReadings xs.now }
+    requires inside { is_range_of (length xs.now) command.now.from command.now.until ≡ true }
+    ensures { IfOk result (λ t. IsSumLine (once_view command.now) xs.now (string_bytes t)) }
+{
+    let segs = segments_of(alloc, xs)?;
+    let (from, until) = positions(xs.len() as u32, command);
+    let answer = descend(alloc, xs, &segs, from, until, command.budget)?;
+    let text = line_of(alloc, &answer)?;
+    Ok(text)
+}
+
+// The answer over the bytes of the file.
+fn answer_in_file<'a>(alloc: Global, command: &Once<'a>, bytes: &[u8]) -> Result<String, Stop<'a>>
+    requires { length bytes.now ≤ most_csv }
+    ensures ok { IfOk result (λ t. (xs : List ℤ) × (in_file (once_view command.now) (Some bytes.now) ≡ Ok xs) × IsSumLine (once_view command.now) xs (string_bytes t)) }
+    ensures refused { IfErr result (λ s. IfRefused s (λ r. in_file (once_view command.now) (Some bytes.now) ≡ Err r)) }
+    ensures possible { IfErr result (λ s. IfRefused s (MayRefuseOnce (once_view command.now))) }
+{
+    let xs = readings_of(alloc, command, bytes)?;
+    let n = xs.len() as u32;
+    if !is_range(n, command.from, command.until) {
+        return Err(Stop::Refused(Refusal::Domain {
+            sum: 1,
+            lo: 0,
+            hi: i64::from(n),
+        }));
+    }
+    match sum_line(alloc, command, &xs) {
+        Ok(text) => Ok(text),
+        Err(AllocError) => Err(Stop::Memory),
+    }
+}
+
+/// The line of the sum over the column of the file, or why there is none.
+pub(crate) fn answer_once<'a, S: Shelf>(
+    alloc: Global,
+    command: &Once<'a>,
+    shelf: &mut S,
+) -> Result<String, Stop<'a>>
+    ensures ok { IfOk result (λ t. IsOnceAnswer (S.files shelf.old) (once_view command.now) (string_bytes t)) }
+    ensures cause { IfErr result (λ s. IfRefused s (IsCause (S.files shelf.old) (S.read_faults shelf.old) (S.read_faults shelf.new) (Some (once (once_view command.now))))) }
+    ensures later { S.read_faults shelf.old ≤ S.read_faults shelf.new }
+    ensures replaces { S.replace_faults shelf.new ≡ S.replace_faults shelf.old }
+    ensures files { S.files shelf.new ≡ S.files shelf.old }
+{
+    let bytes = read_csv(alloc, shelf, command.csv)?;
+    let text = answer_in_file(alloc, command, &bytes)?;
+    Ok(text)
+}

@@ -1,0 +1,4 @@
+pub mod ColumnLaws
+pub mod NearLaws
+pub mod RowLaws
+pub mod TextLaws

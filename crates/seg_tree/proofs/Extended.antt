@@ -1,12 +1,14 @@
 -- A tree stays as it is where nodes are added.
-use Rattle.std.proofs.Common.{◌≡◌, ℕ, ◌+◌, ◌-◌, ◌<◌, ◌≤◌, ℤ, List, [], ◌∷◌, ◌++◌, length, take, refl, ap, ◌∙◌, sym, subst, arith, get_or-take, length-take, take-take, length-append, append_assoc}
+use Rattle.std.proofs.Common.{◌≡◌, Option, Some, None, ℕ, ◌+◌, ◌-◌, ◌<◌, ◌≤◌, ℤ, List, [], ◌∷◌, ◌++◌, length, take, refl, ap, ◌∙◌, sym, subst, arith, get_or-take, length-take, take-take, length-append, append_assoc}
 use Rattle.std.proofs.Math.Seq.{take-length, get_or-append_seam}
 use Rattle.std.proofs.lemmas.List.{take-append-le}
 use Rattle.segment.specs.Shape.{Plan, leaf, fork, plan, IsSplit}
 use Rattle.segment.proofs.ShapeLaws.{plan-leaf, plan-fork}
 use Rattle.segment.specs.declared.segments.Seg.{Seg}
-use Rattle.segment.specs.Tree.{SegTree, tip, node, segs_of, readings_of}
+use Rattle.segment.specs.Tree.{SegTree, tip, node, segs_of, readings_of, IsTreeOver}
+use Rattle.seg_tree.specs.declared.arena.Tree.{Tree}
 use Rattle.seg_tree.specs.declared.nodes.Node.{Node}
+use Rattle.seg_tree.specs.Trees.{IsTreeAt, IsTreeOf, value_at, value_of}
 use Rattle.seg_tree.specs.Linked.{no_node, node_at, IsLeaf, IsFork, kept, left_child, right_child, IsLinked, tree_at, Holds, Extends}
 
 pub Extends_refl : (a : List Node) → Extends a a
@@ -45,6 +47,23 @@ tree_at-Extends old new p (fork s n l r) e w =
 
 pub Holds-Extends : (old new : List Node) (p : ℕ) (plan : Plan) (t : SegTree) → Extends old new → Holds old p plan t → Holds new p plan t
 Holds-Extends old new p plan t e h = record { linked = IsLinked-Extends old new p plan e h.linked; content = tree_at-Extends old new p plan e h.linked ∙ h.content }
+
+value_at-Extends : (old new : List Node) (root : Option ℕ) (n : ℕ) → Extends old new → IsTreeAt old root n → value_at new root n ≡ value_at old root n
+value_at-Extends old new None n e h = refl
+value_at-Extends old new (Some p) n e h = ap Some (tree_at-Extends old new p (plan 0 n) e h.0)
+
+-- a tree keeps its value where nodes are added
+pub value_of-Extends : (old new : List Node) (t : Tree) → Extends old new → IsTreeOf old t → value_of new t ≡ value_of old t
+value_of-Extends old new t e h = value_at-Extends old new t.root t.n e h
+
+IsTreeAt-Extends : (old new : List Node) (root : Option ℕ) (n : ℕ) → Extends old new → IsTreeAt old root n → IsTreeAt new root n
+IsTreeAt-Extends old new None n e h = h
+IsTreeAt-Extends old new (Some p) n e h =
+    (IsLinked-Extends old new p (plan 0 n) e h.0, subst (IsTreeOver n) (sym (tree_at-Extends old new p (plan 0 n) e h.0)) h.1)
+
+-- and stays one
+pub IsTreeOf-Extends : (old new : List Node) (t : Tree) → Extends old new → IsTreeOf old t → IsTreeOf new t
+IsTreeOf-Extends old new t e h = IsTreeAt-Extends old new t.root t.n e h
 
 -- ---- one more node
 

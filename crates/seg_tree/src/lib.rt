@@ -6,6 +6,8 @@ mod arena_nodes;
 mod building;
 mod nodes;
 mod reading;
+#[cfg(test)]
+mod tests;
 
 pub use arena::{Arena, Tree, TreeErr};
 pub use arena_nodes::ArenaNodes;

@@ -1,0 +1,89 @@
+ghost use Rattle.std.specs.Prelude.{◌≡◌, ◌<◌, ◌≤◌, true};
+ghost use Rattle.segment.specs.Measure.{AreReadings};
+
+use super::*;
+use segment::Nodes;
+
+/// Whether all are readings.
+fn are_readings(xs: &[i32]) -> bool
+    ensures { result ≡ true → AreReadings xs.now }
+{
+    for x in xs {
+        if x.unsigned_abs() > 1_000_000_000 {
+            return false;
+        }
+    }
+    true
+}
+
+/// 32 readings, 0 and 10 in turn, and a last one.
+const READINGS: [i32; 33] = [
+    0, 10, 0, 10, 0, 10, 0, 10, 0, 10, 0, 10, 0, 10, 0, 10, 0, 10, 0, 10, 0, 10, 0, 10, 0, 10, 0,
+    10, 0, 10, 0, 10, 7,
+];
+
+#[test]
+fn builds_the_fitted_tree(rt: HostRuntime) -> Result<(), TreeErr> {
+    assert!(rt; are_readings(&READINGS[..32]));
+    let mut arena = Arena::new(rt.alloc(), 0, 4);
+    let empty = arena.build(&[])?;
+    assert_eq!(rt; empty, Tree { root: None, n: 0 });
+    let tree = arena.build(&READINGS[..32])?;
+    assert_eq!(rt;
+        tree,
+        Tree {
+            root: Some(2),
+            n: 32
+        }
+    );
+    assert_eq!(rt; arena.build(&READINGS[..32]), Err(TreeErr::ArenaFull));
+
+    let Ok(segs) = arena.segs_of(tree) else {
+        return Err(TreeErr::Memory)
+    };
+    let mut told = segs.iter().map(|s| (s.start, s.len, s.a, s.l));
+    assert_eq!(rt; told.next(), Some((0, 32, 81920, 2621440)));
+    assert_eq!(rt; told.next(), Some((0, 16, 81920, 1310720)));
+    assert_eq!(rt; told.next(), Some((16, 16, 81920, 1310720)));
+    assert_eq!(rt; told.next(), None);
+
+    let Ok(xs) = arena.readings_of(tree) else {
+        return Err(TreeErr::Memory)
+    };
+    assert_eq!(rt; xs.as_slice(), &READINGS[..32]);
+    Ok(())
+}
+
+#[test]
+fn hands_out_the_nodes(rt: HostRuntime) -> Result<(), TreeErr> {
+    assert!(rt; are_readings(&READINGS));
+    let mut arena = Arena::new(rt.alloc(), 0, 64);
+    let tree = arena.build(&READINGS)?;
+    let trees = [tree];
+    let mut nodes = ArenaNodes::new(&arena, &trees);
+    assert_eq!(rt; (nodes.count(), nodes.readings_len(0)), (1, 33));
+
+    let Ok(Some((root, seg))) = nodes.root(&mut (), 0) else {
+        return Err(TreeErr::Memory)
+    };
+    assert_eq!(rt; (root, seg.start, seg.len, seg.d), (4, 0, 33, 10));
+    let Ok(children) = nodes.children(&mut (), root) else {
+        return Err(TreeErr::Memory)
+    };
+    assert_eq!(rt; (children.left_seg.start, children.left_seg.len), (0, 32));
+    assert_eq!(rt; (children.right_seg.start, children.right_seg.len), (32, 1));
+
+    let mut small = Arena::new(rt.alloc(), 0, 1);
+    let trees = [small.build(&[7])?];
+    let mut nodes = ArenaNodes::new(&small, &trees);
+    assert_eq!(rt; nodes.readings_len(0), 1);
+    let Ok(Some((leaf, _seg))) = nodes.root(&mut (), 0) else {
+        return Err(TreeErr::Memory);
+    };
+    let mut xs = [0; 16];
+    let Ok(n) = nodes.readings(&mut (), leaf, &mut xs) else {
+        return Err(TreeErr::Memory);
+    };
+    assert_eq!(rt; (n, xs[0]), (1, 7));
+    Ok(())
+}

@@ -1,8 +1,6 @@
 -- What a step of building adds.
-use Rattle.std.proofs.Common.{◌≡◌, ℕ, ◌+◌, ◌-◌, ◌≤◌, zero, suc, ℤ, List, [], ◌∷◌, ◌++◌, length, get_or, take, drop, refl, ap₂, subst, arith, inl, inr, pos, length-take, get_or-take, get_or-drop}
-use Rattle.std.proofs.lemmas.Bool.{cases_lt}
+use Rattle.std.proofs.Common.{◌≡◌, ℕ, ◌+◌, ◌-◌, ◌≤◌, ℤ, List, [], ◌∷◌, ◌++◌, length, take, drop, ap₂, subst}
 use Rattle.segment.specs.Fit.{fit_of}
-use Rattle.segment.specs.Measure.{AreReadings}
 use Rattle.segment.specs.Shape.{leaf, fork, plan, IsSplit}
 use Rattle.segment.specs.Tree.{tip, node, fits}
 use Rattle.segment.proofs.ShapeLaws.{plan-leaf, plan-fork}

@@ -107,7 +107,9 @@ impl Arena {
         requires { IsTreeOf self.now.nodes tree }
         ensures { IfOk result (λ xs. xs.items ≡ all_readings (value_of self.now.nodes tree)) }
     {
-        let mut xs = Vec::new(self.alloc);
+        let Ok(mut xs) = Vec::with_capacity(self.alloc, tree.n as usize) else {
+            return Err(Memory);
+        };
         if let Some(root) = tree.root {
             if push_readings(&self.nodes, root, 0, tree.n, &mut xs).is_err() {
                 return Err(Memory);

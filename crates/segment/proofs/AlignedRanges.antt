@@ -4,7 +4,7 @@ use Rattle.std.specs.List.{Contains}
 use Rattle.std.proofs.lemmas.Bool.{cases_lt}
 use Rattle.std.proofs.lemmas.List.Elements.{Contains-append_left, Contains-append_right, Contains-append_cases}
 use Rattle.std.proofs.lemmas.Nat.{same_from_place}
-use Rattle.segment.specs.Shape.{Range, room, plan_below, plan, ranges, IsAligned}
+use Rattle.segment.specs.Shape.{Range, room, plan_below, plan, ranges, IsAligned, ShapeIsAligned, WholeRoomsStay}
 use Rattle.segment.proofs.ShapeLaws.{room-suc, room_mono, plan_below_low, plan_below_high, enough, plan_is}
 
 Contains-here : {A : Type 0} (x y : A) (xs : List A) → y ≡ x → Contains (y ∷ xs) x
@@ -131,3 +131,10 @@ whole_room_stays n k h r a whole = elim (cases_lt (n - r.start) (room a.level)) 
         record { level = h; row = a.row * 2 ^ d; starts = a.starts ∙ ap (λ k. a.row * k) wide ∙ sym (mul_assoc a.row (2 ^ d) (room h)); within = omega (arith, a.within); spans = omega (arith, a.spans) }
   ]
 ]
+
+pub shape-aligned : ShapeIsAligned
+shape-aligned zero r = (λ has. absurd (Contains-none r has), λ a. absurd (omega (arith, a.within)))
+shape-aligned (suc n) r = (range_is_aligned (suc n) r (omega arith), aligned_is_range (suc n) r)
+
+pub shape-stays : WholeRoomsStay
+shape-stays n more level r has whole = (shape-aligned (n + more) r).1 (whole_room_stays n more level r ((shape-aligned n r).0 has) whole)

@@ -1,5 +1,5 @@
 -- Lists of readings: their parts, and one more.
-use Rattle.std.proofs.Common.{◌≡◌, ℕ, zero, suc, ◌+◌, ◌^◌, ◌<◌, ◌≤◌, length, ℤ, pos, List, [], ◌∷◌, ◌++◌, take, drop, unsigned_abs, arith}
+use Rattle.std.proofs.Common.{ℕ, zero, suc, ◌^◌, ◌<◌, ◌≤◌, length, ℤ, List, [], ◌∷◌, ◌++◌, take, drop, unsigned_abs, arith}
 use Rattle.semantics.specs.Readings.{reading}
 use Rattle.segment.specs.Measure.{AreReadings}
 

@@ -6,7 +6,7 @@ use Rattle.semantics.proofs.Ring.{abs-+ℤ, abs--ℤ}
 use Rattle.semantics.proofs.SumLaws.{sum_below-le, most_below-le, most_below-at}
 use Rattle.segment.specs.declared.curves.Curve.{Curve}
 use Rattle.segment.specs.declared.segments.Seg.{Seg}
-use Rattle.segment.specs.Measure.{unit, estimate_at, miss_at, magnitude_at, reach_at, miss, spread, reach, coefficient_bound, IsBounded, TrueIsSane, curve_of}
+use Rattle.segment.specs.Measure.{unit, estimate_at, miss_at, magnitude_at, reach_at, miss, spread, reach, coefficient_bound, IsBounded, EveryTrueIsSane, curve_of}
 use Rattle.segment.proofs.Bounds.{spread-le}
 
 estimate-le : (p : Curve) (n d i : ℕ) → IsBounded p n d → i < n → unsigned_abs (estimate_at p i) ≤ 3 * coefficient_bound d
@@ -51,7 +51,7 @@ spread-part xs from len =
     let here : reading part i ≡ reading xs (from + i) = get_or-take len (drop from xs) i (pos 0) (omega arith) ∙ get_or-drop from xs i (pos 0) in
     subst (λ z. unsigned_abs z ≤ spread xs) (sym here) (magnitude-le xs (from + i) (omega arith)))
 
-pub true-sane : TrueIsSane
+pub true-sane : EveryTrueIsSane
 true-sane xs from len s small is_true =
     let part = take len (drop from xs) in
     let most : s.d ≡ spread part = ap (λ (g : Seg). g.d) is_true.measured in

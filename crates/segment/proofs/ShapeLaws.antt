@@ -1,7 +1,7 @@
 -- Laws of the shape of a tree.
 use Rattle.std.proofs.Common.{◌≡◌, ℕ, zero, suc, ◌+◌, ◌-◌, ◌*◌, ◌/◌, ◌<◌, ◌≤◌, refl, ap, ◌∙◌, sym, arith, le-leb, pow-suc, pow_mono, pow_pos, length, length-append, inl, inr}
 use Rattle.std.proofs.lemmas.Bool.{cases_lt, lt-leb, cond-true, cond-false}
-use Rattle.segment.specs.Shape.{Plan, leaf, fork, room, plan_below, plan, IsSplit, ranges, shape, count, node_count}
+use Rattle.segment.specs.Shape.{Plan, leaf, fork, room, plan_below, plan, IsSplit, ranges, shape, count, node_count, ShapeIsCounted}
 
 pub room-suc : (h : ℕ) → room (suc h) ≡ 2 * room h
 room-suc h = omega (arith, pow-suc 2 h)
@@ -104,3 +104,7 @@ split-below (suc h) len many fits = elim (cases_lt (room h) len) [
 -- more than one block is split
 pub split_exists : (len : ℕ) → 16 < len → (s : ℕ) × IsSplit len s
 split_exists len many = split-below len len many (omega (arith, enough len))
+
+pub shape-counted : ShapeIsCounted
+shape-counted zero = refl
+shape-counted (suc n) = length-ranges (plan 0 (suc n)) ∙ count-plan 0 (suc n) (omega arith)

@@ -78,5 +78,5 @@ pub record IsSane (s : Seg) (root_d : ℕ) : Type 0 where
   pub misses : s.l ≤ 25 * unit * max 1 s.d * s.len
 
 -- every true segment of a part of a series is sane for the greatest magnitude of the series
-abbrev pub TrueIsSane : Type 0
-TrueIsSane = (xs : List ℤ) (from len : ℕ) (s : Seg) → AreReadings xs → IsTrueOf (take len (drop from xs)) s → IsSane s (spread xs)
+abbrev pub EveryTrueIsSane : Type 0
+EveryTrueIsSane = (xs : List ℤ) (from len : ℕ) (s : Seg) → AreReadings xs → IsTrueOf (take len (drop from xs)) s → IsSane s (spread xs)

@@ -1,6 +1,7 @@
 -- The shape of a tree over n readings: blocks of 16, and a node of more than one block is split at the greatest power
 -- of two below its blocks.
-use Rattle.std.specs.Prelude.{◌≡◌, ℕ, zero, suc, ◌+◌, ◌-◌, ◌*◌, ◌/◌, ◌^◌, ◌<◌, ◌≤◌, min, nat_le, if◌then◌else◌, List, [], ◌∷◌, ◌++◌}
+use Rattle.std.specs.Prelude.{◌≡◌, ℕ, zero, suc, ◌+◌, ◌-◌, ◌*◌, ◌/◌, ◌^◌, ◌<◌, ◌≤◌, ◌↔◌, min, nat_le, if◌then◌else◌, List, [], ◌∷◌, ◌++◌, length}
+use Rattle.std.specs.List.{Contains}
 
 -- len positions from start on
 pub record Range : Type 0 where
@@ -59,3 +60,14 @@ pub record IsAligned (n : ℕ) (r : Range) : Type 0 where
   pub starts : r.start ≡ row * room level
   pub within : r.start < n
   pub spans : r.len ≡ min (room level) (n - r.start)
+
+-- the ranges of the shape are the aligned ones
+abbrev pub ShapeIsAligned : Type 0
+ShapeIsAligned = (n : ℕ) (r : Range) → (Contains (shape n) r ↔ IsAligned n r)
+
+abbrev pub ShapeIsCounted : Type 0
+ShapeIsCounted = (n : ℕ) → length (shape n) ≡ node_count n
+
+-- a range that is a whole room stays when readings are added
+abbrev pub WholeRoomsStay : Type 0
+WholeRoomsStay = (n more level : ℕ) (r : Range) → Contains (shape n) r → r.len ≡ room level → Contains (shape (n + more)) r

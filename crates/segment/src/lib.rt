@@ -15,6 +15,6 @@ pub use curves::Curve;
 pub use fitting::fit;
 pub use measures::{measure, unit};
 pub use node_access::{Children, NodeErr, Nodes};
-pub use sanity::{is_sane, true_is_sane};
+pub use sanity::{every_true_segment_is_sane, is_sane};
 pub use segments::{Measures, Seg};
-pub use shape::split;
+pub use shape::{laws_of_the_shape, split};

@@ -1,5 +1,5 @@
 ghost use Rattle.std.specs.Prelude.{◌≡◌, ◌*◌, ◌^◌, ◌≤◌, ◌↔◌, max, IsTrue};
-ghost use Rattle.segment.specs.Measure.{unit, coefficient_bound, curve_of, IsBounded, IsSane, TrueIsSane};
+ghost use Rattle.segment.specs.Measure.{unit, coefficient_bound, curve_of, IsBounded, IsSane, EveryTrueIsSane};
 
 use crate::Seg;
 use crate::curves::UNITS;
@@ -37,6 +37,6 @@ pub(crate) fn greatest_coefficient(d: u64) -> u128
 }
 
 /// Every true segment of readings is sane for the greatest magnitude of their series.
-pub fn true_is_sane()
-    ensures { TrueIsSane }
+pub fn every_true_segment_is_sane()
+    ensures { EveryTrueIsSane }
 {}

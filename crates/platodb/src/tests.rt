@@ -15,12 +15,7 @@ const MOST_CSV: usize = 1 << 26;
 fn shelf_with(alloc: Global, text: Vec<u8>, failing_reads: &[u64]) -> Result<MemShelf, Fail> {
     let mut files = BTreeMap::new(alloc);
     files.insert(String::from_str(alloc, "a.csv")?, Bytes::of(text))?;
-    Ok(MemShelf::new(
-        alloc,
-        files,
-        failing_reads.to_vec(alloc)?,
-        Vec::new(alloc),
-    ))
+    Ok(MemShelf::new(alloc, files, failing_reads.to_vec(alloc)?, Vec::new(alloc)))
 }
 
 fn words_of(alloc: Global, line: &str) -> Result<Vec<String>, Fail> {
@@ -60,6 +55,11 @@ fn answers(rt: HostRuntime) -> Result<(), Fail> {
         ("once a.csv v 0 0 0 1", b"v\n7\n", "7 7 0 1 0\n"),
         ("once a.csv v 0 0 0 0", b"v\n", "0 0 0 0 0\n"),
         ("once a.csv v 0 0 -5 -5", b"v\n7\n", "0 0 0 1 0\n"),
+        (
+            "once a.csv temp 2 0 0 5",
+            b"\xEF\xBB\xBFt,temp\r\n0,21.53\r\n1, 21.5 \r\n2,\r\n3,NaN\r\n4,-0.005\r\n",
+            "8602 8602 0 1 1\n",
+        ),
     ] {
         let (status, out) = outcome(alloc, line, text, &[], &[])?;
         assert!(rt; out.bytes() == written.as_bytes(), "at {line}");
@@ -84,14 +84,29 @@ fn refusals(rt: HostRuntime) -> Result<(), Fail> {
             "usage fault\n",
             2,
         ),
-        ("once a.csv v 0 1 0 1099511627777", ALTERNATING, "usage fault\n", 2),
+        (
+            "once a.csv v 0 1 0 1099511627777",
+            ALTERNATING,
+            "usage fault\n",
+            2,
+        ),
         ("once b.csv v 0 1 0 32", ALTERNATING, "absent b.csv\n", 6),
         ("once a.csv v 0 1 0 32", b"", "csv no header\n", 8),
         ("once a.csv w 0 1 0 32", ALTERNATING, "csv no column\n", 8),
         ("once a.csv v 0 1 0 1", b"t,v\n1,2\n3\n", "csv short 2\n", 8),
         ("once a.csv v 0 1 0 1", b"v\n1\n2\n1e5\n", "csv bad 3\n", 8),
-        ("once a.csv v 0 1 0 1", b"v\n10000000000\n", "csv too large 1\n", 8),
-        ("once a.csv v 0 1 0 1", b"t,v\n0,\n", "csv missing first 1\n", 8),
+        (
+            "once a.csv v 0 1 0 1",
+            b"v\n10000000000\n",
+            "csv too large 1\n",
+            8,
+        ),
+        (
+            "once a.csv v 0 1 0 1",
+            b"t,v\n0,\n",
+            "csv missing first 1\n",
+            8,
+        ),
         ("once a.csv v 0 1 0 33", ALTERNATING, "domain 1 0 32\n", 12),
         ("once a.csv v 0 1 2 1", ALTERNATING, "domain 1 0 32\n", 12),
         ("once a.csv v 0 1 -1 1", ALTERNATING, "domain 1 0 32\n", 12),
@@ -124,22 +139,42 @@ fn large_files(rt: HostRuntime) -> Result<(), Fail> {
     Ok(())
 }
 
+// The first, the second and each further reading call fails in turn, until a run meets no failing call.
 #[test]
-fn faults(rt: HostRuntime) -> Result<(), Fail> {
+fn failing_reads(rt: HostRuntime) -> Result<(), Fail> {
     let alloc = rt.alloc();
     let line = "once a.csv v 0 320 0 32";
+    let mut met = 0;
+    for call in 1..4u64 {
+        let (status, out) = outcome(alloc, line, ALTERNATING, &[call], &[])?;
+        if status == Status::Ok {
+            assert!(rt; out.bytes() == b"0 320 320 1 0\n".as_slice());
+            break;
+        }
+        assert!(rt; out.bytes() == b"read fault\n".as_slice());
+        assert!(rt; status == Status::ReadFault);
+        met = call;
+    }
+    assert_eq!(rt; met, 1);
+    Ok(())
+}
 
-    let (status, out) = outcome(alloc, line, ALTERNATING, &[1], &[])?;
-    assert!(rt; out.bytes() == b"read fault\n".as_slice());
-    assert!(rt; status == Status::ReadFault);
-
-    let (status, out) = outcome(alloc, line, ALTERNATING, &[], &[(1, 3)])?;
-    assert!(rt; out.bytes() == b"0 3".as_slice());
-    assert!(rt; status == Status::OutFault);
-
-    // No second reading call and no second put is made.
-    let (status, out) = outcome(alloc, line, ALTERNATING, &[2], &[(2, 0)])?;
-    assert!(rt; out.bytes() == b"0 320 320 1 0\n".as_slice());
-    assert!(rt; status == Status::Ok);
+// The same with each put, after three bytes of its piece.
+#[test]
+fn failing_puts(rt: HostRuntime) -> Result<(), Fail> {
+    let alloc = rt.alloc();
+    let line = "once a.csv v 0 320 0 32";
+    let mut met = 0;
+    for call in 1..4u64 {
+        let (status, out) = outcome(alloc, line, ALTERNATING, &[], &[(call, 3)])?;
+        if status == Status::Ok {
+            assert!(rt; out.bytes() == b"0 320 320 1 0\n".as_slice());
+            break;
+        }
+        assert!(rt; out.bytes() == b"0 3".as_slice());
+        assert!(rt; status == Status::OutFault);
+        met = call;
+    }
+    assert_eq!(rt; met, 1);
     Ok(())
 }

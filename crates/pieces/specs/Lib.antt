@@ -1,0 +1,4 @@
+pub mod Cursors
+pub mod Refinement
+pub mod View
+pub mod ViewOf

@@ -1,0 +1,16 @@
+pub mod ChargeLaws
+pub mod Examples
+pub mod FormBounds
+pub mod MissLaws
+pub mod NearLaws
+pub mod NumberBounds
+pub mod OccurrenceLaws
+pub mod Regroup
+pub mod SaneLaws
+pub mod SegmentLaws
+pub mod ShapeBounds
+pub mod ShapeLaws
+pub mod SmallLaws
+pub mod Sums
+pub mod SumsWithin
+pub mod Windows

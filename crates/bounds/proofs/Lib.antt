@@ -5,6 +5,7 @@ pub mod MissLaws
 pub mod NearLaws
 pub mod NumberBounds
 pub mod OccurrenceLaws
+pub mod PieceLaws
 pub mod Regroup
 pub mod SaneLaws
 pub mod SegmentLaws
@@ -13,4 +14,5 @@ pub mod ShapeLaws
 pub mod SmallLaws
 pub mod Sums
 pub mod SumsWithin
+pub mod TouchLaws
 pub mod Windows

@@ -1,5 +1,5 @@
 -- The segments that stand for the readings of a series.
-use Rattle.std.specs.Prelude.{◌≡◌, ℕ, ◌+◌, ◌≤◌, ◌&&◌, nat_le, nat_lt, if◌then◌else◌, Bool, false, ℤ, pos, negsuc, ◌+ℤ◌, ◌-ℤ◌, ◌*ℤ◌, List, [], ◌∷◌, length, take, drop}
+use Rattle.std.specs.Prelude.{◌≡◌, ℕ, ◌+◌, ◌≤◌, ◌&&◌, nat_le, nat_lt, if◌then◌else◌, Bool, false, ℤ, pos, negsuc, ◌+ℤ◌, ◌-ℤ◌, ◌*ℤ◌, List, [], ◌∷◌, length, take, drop, ◌≢◌, ◌<◌, true, slice_index_or}
 use Rattle.std.specs.List.{sum_by, AllByRecursion}
 use Rattle.semantics.specs.Term.{Term, base, constant, bare, plus, minus, times, shift}
 use Rattle.segment.specs.declared.segments.Seg.{Seg}
@@ -30,6 +30,18 @@ seg_at (g ∷ gs) i = if covers g i then g else seg_at gs i
 abbrev pub TouchFrom : ℕ → List Seg → ℕ → Type 0
 TouchFrom from [] to = from ≡ to
 TouchFrom from (g ∷ gs) to = (g.start ≡ from) × TouchFrom (from + g.len) gs to
+
+abbrev pub seg_in : List Seg → ℕ → Seg
+seg_in gs k = slice_index_or gs k no_seg
+
+-- the k-th segment, and no other one, covers a position, and is found there
+pub record IsFoundAt (gs : List Seg) (k : ℕ) (i : ℤ) : Type 0 where
+  pub found : seg_at gs i ≡ seg_in gs k
+  pub alone : (j : ℕ) → j < length gs → j ≢ k → covers (seg_in gs j) i ≡ false
+
+-- so is every segment at the positions that it covers, of those that lie one behind the other
+abbrev pub SegsAreFound : Type 0
+SegsAreFound = (gs : List Seg) (from to k : ℕ) (i : ℤ) → TouchFrom from gs to → k < length gs → covers (seg_in gs k) i ≡ true → IsFoundAt gs k i
 
 -- a segment is true of those readings that it covers
 abbrev pub IsTrueIn : List ℤ → Seg → Type 0

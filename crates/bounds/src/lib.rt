@@ -5,6 +5,8 @@
 ghost use Rattle.bounds.specs.Cut.{SumsAreWithin};
 ghost use Rattle.bounds.specs.Form.{FormsBoundValues};
 ghost use Rattle.bounds.specs.Magnitudes.{NumbersAreWithin};
+ghost use Rattle.bounds.specs.Pieces.{FormsGoByPieces};
+ghost use Rattle.bounds.specs.Segments.{SegsAreFound};
 ghost use Rattle.bounds.specs.Shape.{FormsAreByReads};
 ghost use Rattle.bounds.specs.Small.{FormsAreSmall};
 ghost use Rattle.bounds.specs.Worked.{SumsAreWorked};
@@ -18,6 +20,16 @@ pub fn forms_bound_values()
 /// A local form depends on the position by the segments that are read, and by their estimates alone.
 pub fn forms_are_by_reads()
     ensures { FormsAreByReads }
+{}
+
+/// Of segments that lie one behind the other, one covers a position, and it is found there.
+pub fn segs_are_found()
+    ensures { SegsAreFound }
+{}
+
+/// On positions in a row at which the same segments are read, forms and greatest weights need no look at each position.
+pub fn forms_go_by_pieces()
+    ensures { FormsGoByPieces }
 {}
 
 /// Over true segments the interval of a sum contains the plain sum.

@@ -1,4 +1,5 @@
 pub mod Counts
 pub mod Order
+pub mod Places
 pub mod Steps
 pub mod Sweeps

@@ -67,6 +67,17 @@ abbrev pub RunFrom : ℤ → List PieceView → ℤ → Type 0
 RunFrom from [] to = from ≡ to
 RunFrom from (p ∷ pieces) to = (p.start ≡ from) × (1 ≤ p.len) × RunFrom (from +ℤ pos p.len) pieces to
 
+-- a position lies in a piece
+abbrev pub IsIn : PieceView → ℤ → Type 0
+IsIn p i = (p.start ≤ℤ i) × (i <ℤ (p.start +ℤ pos p.len))
+
+-- a position lies in exactly one piece
+pub record IsInOne (pieces : List PieceView) (i : ℤ) : Type 0 where
+  pub place : ℕ
+  pub below : place < length pieces
+  pub inside : IsIn (piece_at pieces place) i
+  pub alone : (k : ℕ) → k < length pieces → IsIn (piece_at pieces k) i → k ≡ place
+
 -- the pieces of a range: each position of it lies in exactly one, at each position of a piece the occurrences read the segments
 -- of the piece, and neighbours differ in some segment
 pub record IsRefinement (spans : List Span) (occs : List Occ) (l r : ℤ) (pieces : List PieceView) : Type 0 where

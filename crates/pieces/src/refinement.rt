@@ -1,5 +1,5 @@
 ghost use Rattle.std.specs.Prelude.{◌≡◌, ℤ, ◌-◌, ◌<◌, ◌^◌, pos, ◌+ℤ◌, ◌≤ℤ◌, ◌<ℤ◌, length, slice_index, IfOk, []};
-ghost use Rattle.pieces.specs.Refinement.{piece_at, AllRead, AllWithin, IsRefinement};
+ghost use Rattle.pieces.specs.Refinement.{piece_at, AllRead, AllWithin, IsInOne, IsRefinement};
 ghost use Rattle.pieces.specs.ViewOf.{view_all};
 
 use crate::cursors::{firsts, step};
@@ -43,6 +43,7 @@ pub fn refine(alloc: Global, spans: &[Span], occs: &[Occ], l: i64, r: i64) -> Re
     requires within { AllWithin spans.now occs.now }
     requires read { (i : ℤ) → l ≤ℤ i → i <ℤ r → AllRead spans.now occs.now i }
     ensures pieces { IfOk result (IsRefinement spans.now occs.now l r) }
+    ensures each { IfOk result (λ pieces. (i : ℤ) → l ≤ℤ i → i <ℤ r → IsInOne pieces i) }
     ensures one { IfOk result (λ pieces. occs.now ≡ [] → l <ℤ r → length pieces ≡ 1) }
 {
     let Ok(items) = sweep(alloc, spans, occs, l, r) else {

@@ -6,6 +6,7 @@ use mir.Syntax.{w64}
 use Rattle.pieces.specs.Refinement.{IsRefinement}
 use Rattle.pieces.specs.ViewOf.{view_all, view_of}
 use Rattle.pieces.proofs.Counts.{few_pieces, one_piece_of}
+use Rattle.pieces.proofs.Places.{in_one}
 use Rattle.pieces.proofs.refinement.refine.Goals as goal
 
 pub invariant_of-result : goal.invariant_of-result
@@ -18,6 +19,13 @@ invariant_of-result c =
       length-map c.in-Ok.items.items view_of,
       few_pieces c.args.spans.now c.args.occs.now c.args.l c.args.r (view_all c.in-Ok.items.items) c.requires.within c.requires.read pieces,
     )
+
+pub returns-clause-each : goal.returns-clause-each
+returns-clause-each c =
+    let low : SFits w64 c.args.l = c.ranges.l in
+    let high : SFits w64 c.args.r = c.ranges.r in
+    let pieces : IsRefinement c.args.spans.now c.args.occs.now c.args.l c.args.r (view_all c.in-Ok.items.items) = simp to_z-of_z at c.in-Ok.ensures in
+    λ i. in_one c.args.l c.args.r (view_all c.in-Ok.items.items) i pieces.runs
 
 pub returns-clause-one : goal.returns-clause-one
 returns-clause-one c =

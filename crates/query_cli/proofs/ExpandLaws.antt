@@ -3,21 +3,20 @@ use Rattle.std.proofs.Common.{◌≡◌, ℕ, zero, suc, ◌+◌, ◌-◌, ◌�
 use Rattle.std.specs.Prelude.{insert}
 use Rattle.std.specs.List.{All, count_by}
 use Rattle.std.proofs.lemmas.Bool.{cond-true, cond-false, eq-eqb, ne_eqb}
-use Rattle.std.proofs.lemmas.List.{get_or_default, get_or-map, length-map, map-append, map-set, take-map, drop-map, set_split, take_more_set, drop-set-lt}
+use Rattle.std.proofs.lemmas.List.{get_or-map, length-map, map-append, map-set, take-map, drop-map, set_split, take_more_set, drop-set-lt}
 use Rattle.std.proofs.lemmas.List.Elements.{All-cons, All-head, All-tail, All-append, All-take, All-drop, All-set, All-weaker}
 use Rattle.std.proofs.lemmas.List.Sums.{sum_by-cons}
 use Rattle.semantics.specs.Quotients.{floor_of, ceil_of}
 use Rattle.segment.specs.Measure.{unit}
-use Rattle.segment.specs.declared.segments.Seg.{Seg}
+use Rattle.segment.specs.Nodes.{Place}
 use Rattle.segment.specs.Shape.{plan, IsSplit}
 use Rattle.query_cli.specs.declared.cut.CutRow.{CutRow}
 use Rattle.query_cli.specs.Cuts.{Row, closed_row, opened_row, charge, charges, estimates, low_end, high_end, width, IsPartition, IsCut, opened_in}
 use Rattle.query_cli.specs.Descents.{root_cut, rows_below, row_at, expanded, most_charge, expand_first, next_cut, cut_after, IsLast}
-use Rattle.query_cli.specs.Rows.{shown, cut_of, no_row, row_charge, IsRowOf, IsSmall, IsFirstGreatest, estimates_of, charges_of}
+use Rattle.query_cli.specs.Rows.{shown, cut_of, place_at, row_charge, IsRowOf, IsSmall, IsFirstGreatest, estimates_of, charges_of}
 use Rattle.query_cli.proofs.NodeLaws.{below-leaf, below-fork}
 use Rattle.query_cli.proofs.DescentLaws.{next_of_wide, works, next_works, after_is_cut}
 use Rattle.query_cli.proofs.Containment.{width-exact}
-use Rattle.query_cli.proofs.RowLaws.{charge_at}
 
 -- ---- the choice
 
@@ -42,21 +41,20 @@ most_charge-at xs from until [] at within = absurd (omega arith)
 most_charge-at xs from until (row ∷ cut) zero within = omega arith
 most_charge-at xs from until (row ∷ cut) (suc at) within = omega (arith, most_charge-at xs from until cut at (omega arith))
 
-pub row_at-cut_of : (rows : List CutRow) (k : ℕ) → k < length rows → row_at (cut_of rows) k ≡ shown (get_or rows k no_row)
-row_at-cut_of rows k lt = get_or-map shown rows k no_row (opened_row 0 0) lt
-
-charge-cut_of : (xs : List ℤ) (segs : List Seg) (from until : ℕ) (rows : List CutRow) (k : ℕ) → All (IsRowOf xs segs from until) rows → k < length rows
+charge-cut_of : {I : Type 0} (stands : I → Place → Type 0) (xs : List ℤ) (from until : ℕ) (rows : List (CutRow I)) (k : ℕ) → All (IsRowOf stands xs from until) rows → k < length rows
     → charge xs from until (row_at (cut_of rows) k) ≡ get_or (map row_charge rows) k 0
-charge-cut_of xs segs from until rows k holds lt = ap (charge xs from until) (row_at-cut_of rows k lt) ∙ sym (holds k no_row lt).charged ∙ sym (charge_at rows k lt)
+charge-cut_of stands xs from until [] k holds lt = absurd (omega arith)
+charge-cut_of stands xs from until (row ∷ rows) zero holds lt = sym (All-head (IsRowOf stands xs from until) row rows holds).charged
+charge-cut_of stands xs from until (row ∷ rows) (suc k) holds lt = charge-cut_of stands xs from until rows k (All-tail (IsRowOf stands xs from until) row rows holds) (omega arith)
 
 -- the first row of the greatest charge is the one that the next cut replaces
-chosen : (xs : List ℤ) (segs : List Seg) (from until budget at : ℕ) (rows : List CutRow) → All (IsRowOf xs segs from until) rows → budget < width xs from until (cut_of rows) → IsFirstGreatest (map row_charge rows) at
+chosen : {I : Type 0} (stands : I → Place → Type 0) (xs : List ℤ) (from until budget at : ℕ) (rows : List (CutRow I)) → All (IsRowOf stands xs from until) rows → budget < width xs from until (cut_of rows) → IsFirstGreatest (map row_charge rows) at
     → next_cut xs from until (cut_of rows) ≡ expanded (cut_of rows) at
-chosen xs segs from until budget at rows holds wide best =
+chosen stands xs from until budget at rows holds wide best =
     let n : length (map row_charge rows) ≡ length rows = length-map rows row_charge in
     let m : length (cut_of rows) ≡ length rows = length-map rows shown in
     let within : at < length rows = omega (arith, best.within) in
-    let same = λ (k : ℕ) (lt : k < length rows). charge-cut_of xs segs from until rows k holds lt in
+    let same = λ (k : ℕ) (lt : k < length rows). charge-cut_of stands xs from until rows k holds lt in
     let greatest : most_charge xs from until (cut_of rows) ≤ charge xs from until (row_at (cut_of rows) at) =
     most_charge-le xs from until (charge xs from until (row_at (cut_of rows) at)) (cut_of rows)
     (λ k lt. omega (arith, same k (omega arith), same at within, best.greatest k (omega arith))) in
@@ -66,28 +64,28 @@ chosen xs segs from until budget at rows holds wide best =
     (λ k lt. omega (arith, same k (omega arith), same at within, best.first k lt, greatest, reached))
 
 -- a row that was read is one of the rows
-pub held : (xs : List ℤ) (segs : List Seg) (from until at : ℕ) (rows : List CutRow) (row : CutRow) → All (IsRowOf xs segs from until) rows → at < length rows → row ≡ get_or rows at row → IsRowOf xs segs from until row
-held xs segs from until at rows row holds within is = subst (IsRowOf xs segs from until) (sym is) (holds at row within)
+pub held : {I : Type 0} (stands : I → Place → Type 0) (xs : List ℤ) (from until at : ℕ) (rows : List (CutRow I)) (row : CutRow I) → All (IsRowOf stands xs from until) rows → at < length rows → row ≡ get_or rows at row → IsRowOf stands xs from until row
+held stands xs from until at rows row holds within is = subst (IsRowOf stands xs from until) (sym is) (holds at row within)
 
-pub read_is : (rows : List CutRow) (at : ℕ) (row : CutRow) → at < length rows → row ≡ get_or rows at row → get_or rows at no_row ≡ row
-read_is rows at row within is = get_or_default rows at no_row row within ∙ sym is
+row_at-read : {I : Type 0} (rows : List (CutRow I)) (at : ℕ) (row : CutRow I) → at < length rows → row ≡ get_or rows at row → row_at (cut_of rows) at ≡ shown row
+row_at-read rows at row within is = get_or-map shown rows at row (opened_row 0 0) within ∙ ap shown (sym is)
 
 -- ---- the lists
 
-pub opened_is : (rows : List CutRow) (at : ℕ) (old new : CutRow) → at < length rows → old ≡ get_or rows at old → old.len ≤ 16 → shown new ≡ opened_row old.start old.len → cut_of (set rows at new) ≡ expanded (cut_of rows) at
+pub opened_is : {I : Type 0} (rows : List (CutRow I)) (at : ℕ) (old new : CutRow I) → at < length rows → old ≡ get_or rows at old → old.len ≤ 16 → shown new ≡ opened_row old.start old.len → cut_of (set rows at new) ≡ expanded (cut_of rows) at
 opened_is rows at old new within read small is =
     let m : length (cut_of rows) ≡ length rows = length-map rows shown in
     let below : rows_below (plan (row_at (cut_of rows) at).start (row_at (cut_of rows) at).len) ≡ opened_row old.start old.len ∷ [] =
-    rw (row_at-cut_of rows at within, read_is rows at old within read) (below-leaf old.start old.len small) in
+    rw (row_at-read rows at old within read) (below-leaf old.start old.len small) in
     map-set shown rows at new ∙ set_split (cut_of rows) at (shown new) (omega arith)
     ∙ ap (λ r. take at (cut_of rows) ++ (r ∷ drop (suc at) (cut_of rows))) is
     ∙ ap (λ rows'. take at (cut_of rows) ++ (rows' ++ drop (suc at) (cut_of rows))) (sym below)
 
-pub split_is : (rows : List CutRow) (at s : ℕ) (old left right : CutRow) → at < length rows → old ≡ get_or rows at old → IsSplit old.len s → shown left ≡ closed_row old.start s → shown right ≡ closed_row (old.start + s) (old.len - s)
+pub split_is : {I : Type 0} (rows : List (CutRow I)) (at s : ℕ) (old left right : CutRow I) → at < length rows → old ≡ get_or rows at old → IsSplit old.len s → shown left ≡ closed_row old.start s → shown right ≡ closed_row (old.start + s) (old.len - s)
     → cut_of (insert (set rows at left) (at + 1) right) ≡ expanded (cut_of rows) at
 split_is rows at s old left right within read split is_left is_right =
     let below : rows_below (plan (row_at (cut_of rows) at).start (row_at (cut_of rows) at).len) ≡ closed_row old.start s ∷ closed_row (old.start + s) (old.len - s) ∷ [] =
-    rw (row_at-cut_of rows at within, read_is rows at old within read) (below-fork old.start old.len s split) in
+    rw (row_at-read rows at old within read) (below-fork old.start old.len s split) in
     let next : at + 1 ≡ suc at = omega arith in
     let list : insert (set rows at left) (at + 1) right ≡ (take at rows ++ left ∷ []) ++ right ∷ drop (at + 1) rows =
     ap₂ (λ xs ys. xs ++ right ∷ ys) (take_more_set rows at left within) (drop-set-lt (at + 1) rows at left (omega arith)) in
@@ -99,6 +97,11 @@ split_is rows at s old left right within read split is_left is_right =
     ∙ ap (λ n. take at (cut_of rows) ++ (closed_row old.start s ∷ closed_row (old.start + s) (old.len - s) ∷ drop n (cut_of rows))) next
     ∙ ap (λ rows'. take at (cut_of rows) ++ (rows' ++ drop (suc at) (cut_of rows))) (sym below)
 
+-- the rows stay rows where each id stands for what it stood for
+pub All-later : {I : Type 0} (stands stands_after : I → Place → Type 0) (xs : List ℤ) (from until : ℕ) (rows : List (CutRow I)) → ((i : I) (p : Place) → stands i p → stands_after i p) → All (IsRowOf stands xs from until) rows → All (IsRowOf stands_after xs from until) rows
+All-later stands stands_after xs from until rows ids holds = All-weaker (IsRowOf stands xs from until) (IsRowOf stands_after xs from until)
+    (λ row h. record { some = h.some; inside = h.inside; node = ids row.id (place_at row.start row.len) h.node; estimated = h.estimated; charged = h.charged; small = h.small }) rows holds
+
 pub All-split : {X : Type 0} (P : X → Type 0) (xs : List X) (at : ℕ) (left right : X) → All P xs → P left → P right → All P (insert (set xs at left) (at + 1) right)
 All-split {X} P xs at left right all l r =
     let both = All-set P xs at left l all in
@@ -107,20 +110,20 @@ All-split {X} P xs at left right all l r =
 
 -- ---- what the rows give together
 
-estimates-cut_of : (xs : List ℤ) (segs : List Seg) (from until : ℕ) (rows : List CutRow) → All (IsRowOf xs segs from until) rows → estimates_of rows ≡ estimates xs from until (cut_of rows)
-estimates-cut_of xs segs from until [] holds = refl
-estimates-cut_of xs segs from until (row ∷ rows) holds =
-    ap₂ ◌+ℤ◌ (All-head (IsRowOf xs segs from until) row rows holds).estimated (estimates-cut_of xs segs from until rows (All-tail (IsRowOf xs segs from until) row rows holds))
+estimates-cut_of : {I : Type 0} (stands : I → Place → Type 0) (xs : List ℤ) (from until : ℕ) (rows : List (CutRow I)) → All (IsRowOf stands xs from until) rows → estimates_of rows ≡ estimates xs from until (cut_of rows)
+estimates-cut_of stands xs from until [] holds = refl
+estimates-cut_of stands xs from until (row ∷ rows) holds =
+    ap₂ ◌+ℤ◌ (All-head (IsRowOf stands xs from until) row rows holds).estimated (estimates-cut_of stands xs from until rows (All-tail (IsRowOf stands xs from until) row rows holds))
 
-charges-cut_of : (xs : List ℤ) (segs : List Seg) (from until : ℕ) (rows : List CutRow) → All (IsRowOf xs segs from until) rows → charges_of rows ≡ charges xs from until (cut_of rows)
-charges-cut_of xs segs from until [] holds = refl
-charges-cut_of xs segs from until (row ∷ rows) holds =
-    ap₂ ◌+◌ (All-head (IsRowOf xs segs from until) row rows holds).charged (charges-cut_of xs segs from until rows (All-tail (IsRowOf xs segs from until) row rows holds))
+charges-cut_of : {I : Type 0} (stands : I → Place → Type 0) (xs : List ℤ) (from until : ℕ) (rows : List (CutRow I)) → All (IsRowOf stands xs from until) rows → charges_of rows ≡ charges xs from until (cut_of rows)
+charges-cut_of stands xs from until [] holds = refl
+charges-cut_of stands xs from until (row ∷ rows) holds =
+    ap₂ ◌+◌ (All-head (IsRowOf stands xs from until) row rows holds).charged (charges-cut_of stands xs from until rows (All-tail (IsRowOf stands xs from until) row rows holds))
 
-pub opened_in-cut_of : (rows : List CutRow) → count_by (λ (row : CutRow). row.opened) rows ≡ opened_in (cut_of rows)
+pub opened_in-cut_of : {I : Type 0} (rows : List (CutRow I)) → count_by (λ (row : CutRow I). row.opened) rows ≡ opened_in (cut_of rows)
 opened_in-cut_of [] = refl
 opened_in-cut_of (row ∷ rows) =
-    sum_by-cons (λ (r : CutRow). cond r.opened 1 0) row rows ∙ ap (λ n. cond row.opened 1 0 + n) (opened_in-cut_of rows) ∙ sym (sum_by-cons (λ (r : Row). cond r.opened 1 0) (shown row) (cut_of rows))
+    sum_by-cons (λ (r : CutRow _). cond r.opened 1 0) row rows ∙ ap (λ n. cond row.opened 1 0 + n) (opened_in-cut_of rows) ∙ sym (sum_by-cons (λ (r : Row). cond r.opened 1 0) (shown row) (cut_of rows))
 
 pub partition_length : (start end : ℕ) (cut : List Row) → IsPartition start end cut → start + length cut ≤ end
 partition_length start end [] is = omega arith
@@ -129,55 +132,55 @@ partition_length start end (row ∷ cut) (begins, some, rest) = omega (arith, pa
 -- ---- the loop
 
 -- the rows are those of a cut of the descent, and the interval of each cut before was wider than the budget
-pub record Reached (xs : List ℤ) (segs : List Seg) (from until budget : ℕ) (rows : List CutRow) : Type 0 where
+pub record Reached {I : Type 0} (stands : I → Place → Type 0) (xs : List ℤ) (from until budget : ℕ) (rows : List (CutRow I)) : Type 0 where
   pub steps : ℕ
   pub cut : cut_of rows ≡ cut_after xs from until steps
   pub before : (k : ℕ) → k < steps → budget < width xs from until (cut_after xs from until k)
-  pub holds : All (IsRowOf xs segs from until) rows
+  pub holds : All (IsRowOf stands xs from until) rows
 
-pub root_reached : (xs : List ℤ) (segs : List Seg) (from until budget : ℕ) (rows : List CutRow) → cut_of rows ≡ root_cut (length xs) → All (IsRowOf xs segs from until) rows → Reached xs segs from until budget rows
-root_reached xs segs from until budget rows cut holds = record { steps = 0; cut = cut; before = λ k lt. absurd (omega arith); holds = holds }
+pub root_reached : {I : Type 0} (stands : I → Place → Type 0) (xs : List ℤ) (from until budget : ℕ) (rows : List (CutRow I)) → cut_of rows ≡ root_cut (length xs) → All (IsRowOf stands xs from until) rows → Reached stands xs from until budget rows
+root_reached stands xs from until budget rows cut holds = record { steps = 0; cut = cut; before = λ k lt. absurd (omega arith); holds = holds }
 
-pub next_reached : (xs : List ℤ) (segs : List Seg) (from until budget at : ℕ) (rows seen new : List CutRow) → Reached xs segs from until budget rows → budget < width xs from until (cut_of rows) → seen ≡ rows → IsFirstGreatest (map row_charge seen) at
-    → cut_of new ≡ expanded (cut_of rows) at → All (IsRowOf xs segs from until) new → Reached xs segs from until budget new
-next_reached xs segs from until budget at rows seen new reached wide is best cut holds = record {
+pub next_reached : {I : Type 0} (stands stands_after : I → Place → Type 0) (xs : List ℤ) (from until budget at : ℕ) (rows seen new : List (CutRow I)) → Reached stands xs from until budget rows → budget < width xs from until (cut_of rows) → seen ≡ rows → IsFirstGreatest (map row_charge seen) at
+    → cut_of new ≡ expanded (cut_of rows) at → All (IsRowOf stands_after xs from until) new → Reached stands_after xs from until budget new
+next_reached stands stands_after xs from until budget at rows seen new reached wide is best cut holds = record {
   steps = suc reached.steps;
-  cut = cut ∙ sym (chosen xs segs from until budget at rows reached.holds wide (subst (λ rows. IsFirstGreatest (map row_charge rows) at) is best)) ∙ ap (next_cut xs from until) reached.cut;
+  cut = cut ∙ sym (chosen stands xs from until budget at rows reached.holds wide (subst (λ rows. IsFirstGreatest (map row_charge rows) at) is best)) ∙ ap (next_cut xs from until) reached.cut;
   before = λ k lt. below_more (λ k. budget < width xs from until (cut_after xs from until k)) reached.steps reached.before (subst (λ c. budget < width xs from until c) reached.cut wide) k (omega arith);
   holds = holds;
 }
 
-pub next_work : (xs : List ℤ) (segs : List Seg) (from until budget at : ℕ) (rows seen new : List CutRow) → All (IsRowOf xs segs from until) rows → budget < width xs from until (cut_of rows) → seen ≡ rows → IsFirstGreatest (map row_charge seen) at
+pub next_work : {I : Type 0} (stands : I → Place → Type 0) (xs : List ℤ) (from until budget at : ℕ) (rows seen new : List (CutRow I)) → All (IsRowOf stands xs from until) rows → budget < width xs from until (cut_of rows) → seen ≡ rows → IsFirstGreatest (map row_charge seen) at
     → cut_of new ≡ expanded (cut_of rows) at → works (cut_of new) < works (cut_of rows)
-next_work xs segs from until budget at rows seen new holds wide is best cut =
-    let same : cut_of new ≡ next_cut xs from until (cut_of rows) = cut ∙ sym (chosen xs segs from until budget at rows holds wide (subst (λ rows. IsFirstGreatest (map row_charge rows) at) is best)) in
+next_work stands xs from until budget at rows seen new holds wide is best cut =
+    let same : cut_of new ≡ next_cut xs from until (cut_of rows) = cut ∙ sym (chosen stands xs from until budget at rows holds wide (subst (λ rows. IsFirstGreatest (map row_charge rows) at) is best)) in
     rw same (next_works xs from until budget (cut_of rows) wide)
 
-pub last_reached : (xs : List ℤ) (segs : List Seg) (from until budget : ℕ) (rows : List CutRow) → Reached xs segs from until budget rows → width xs from until (cut_of rows) ≤ budget → IsLast xs from until budget (cut_of rows)
-last_reached xs segs from until budget rows reached within = record { steps = reached.steps; reached = reached.cut; within = within; before = reached.before }
+pub last_reached : {I : Type 0} (stands : I → Place → Type 0) (xs : List ℤ) (from until budget : ℕ) (rows : List (CutRow I)) → Reached stands xs from until budget rows → width xs from until (cut_of rows) ≤ budget → IsLast xs from until budget (cut_of rows)
+last_reached stands xs from until budget rows reached within = record { steps = reached.steps; reached = reached.cut; within = within; before = reached.before }
 
-pub reached_is_cut : (xs : List ℤ) (segs : List Seg) (from until budget : ℕ) (rows : List CutRow) → Reached xs segs from until budget rows → IsCut (length xs) (cut_of rows)
-reached_is_cut xs segs from until budget rows reached = subst (IsCut (length xs)) (sym reached.cut) (after_is_cut xs from until reached.steps)
+pub reached_is_cut : {I : Type 0} (stands : I → Place → Type 0) (xs : List ℤ) (from until budget : ℕ) (rows : List (CutRow I)) → Reached stands xs from until budget rows → IsCut (length xs) (cut_of rows)
+reached_is_cut stands xs from until budget rows reached = subst (IsCut (length xs)) (sym reached.cut) (after_is_cut xs from until reached.steps)
 
 -- there are no more rows than readings
-pub few_rows : (xs : List ℤ) (segs : List Seg) (from until budget : ℕ) (rows : List CutRow) → Reached xs segs from until budget rows → length rows ≤ length xs
-few_rows xs segs from until budget rows reached =
-    omega (arith, partition_length 0 (length xs) (cut_of rows) (reached_is_cut xs segs from until budget rows reached).partition, length-map rows shown)
+pub few_rows : {I : Type 0} (stands : I → Place → Type 0) (xs : List ℤ) (from until budget : ℕ) (rows : List (CutRow I)) → Reached stands xs from until budget rows → length rows ≤ length xs
+few_rows stands xs from until budget rows reached =
+    omega (arith, partition_length 0 (length xs) (cut_of rows) (reached_is_cut stands xs from until budget rows reached).partition, length-map rows shown)
 
 -- an interval that is wider than a budget has a row
-pub wide_has_row : (xs : List ℤ) (from until budget : ℕ) (rows : List CutRow) → budget < width xs from until (cut_of rows) → 0 < length rows
+pub wide_has_row : {I : Type 0} (xs : List ℤ) (from until budget : ℕ) (rows : List (CutRow I)) → budget < width xs from until (cut_of rows) → 0 < length rows
 wide_has_row xs from until budget [] wide = absurd (omega (arith, width-exact xs from until [] refl))
 wide_has_row xs from until budget (row ∷ rows) wide = omega arith
 
-pub all_small : (xs : List ℤ) (segs : List Seg) (from until : ℕ) (rows : List CutRow) → All (IsRowOf xs segs from until) rows → All IsSmall rows
-all_small xs segs from until rows holds = All-weaker (IsRowOf xs segs from until) IsSmall (λ row h. h.small) rows holds
+pub all_small : {I : Type 0} (stands : I → Place → Type 0) (xs : List ℤ) (from until : ℕ) (rows : List (CutRow I)) → All (IsRowOf stands xs from until) rows → All IsSmall rows
+all_small stands xs from until rows holds = All-weaker (IsRowOf stands xs from until) IsSmall (λ row h. h.small) rows holds
 
 -- the interval of the rows is that of their cut
-pub low_end-cut_of : (xs : List ℤ) (segs : List Seg) (from until : ℕ) (rows seen : List CutRow) → All (IsRowOf xs segs from until) rows → seen ≡ rows → ceil_of (estimates_of seen -ℤ pos (charges_of seen)) unit ≡ low_end xs from until (cut_of rows)
-low_end-cut_of xs segs from until rows seen holds is = ap (λ rows. ceil_of (estimates_of rows -ℤ pos (charges_of rows)) unit) is ∙ ap₂ (λ z n. ceil_of (z -ℤ pos n) unit) (estimates-cut_of xs segs from until rows holds) (charges-cut_of xs segs from until rows holds)
+pub low_end-cut_of : {I : Type 0} (stands : I → Place → Type 0) (xs : List ℤ) (from until : ℕ) (rows seen : List (CutRow I)) → All (IsRowOf stands xs from until) rows → seen ≡ rows → ceil_of (estimates_of seen -ℤ pos (charges_of seen)) unit ≡ low_end xs from until (cut_of rows)
+low_end-cut_of stands xs from until rows seen holds is = ap (λ rows. ceil_of (estimates_of rows -ℤ pos (charges_of rows)) unit) is ∙ ap₂ (λ z n. ceil_of (z -ℤ pos n) unit) (estimates-cut_of stands xs from until rows holds) (charges-cut_of stands xs from until rows holds)
 
-pub high_end-cut_of : (xs : List ℤ) (segs : List Seg) (from until : ℕ) (rows seen : List CutRow) → All (IsRowOf xs segs from until) rows → seen ≡ rows → floor_of (estimates_of seen +ℤ pos (charges_of seen)) unit ≡ high_end xs from until (cut_of rows)
-high_end-cut_of xs segs from until rows seen holds is = ap (λ rows. floor_of (estimates_of rows +ℤ pos (charges_of rows)) unit) is ∙ ap₂ (λ z n. floor_of (z +ℤ pos n) unit) (estimates-cut_of xs segs from until rows holds) (charges-cut_of xs segs from until rows holds)
+pub high_end-cut_of : {I : Type 0} (stands : I → Place → Type 0) (xs : List ℤ) (from until : ℕ) (rows seen : List (CutRow I)) → All (IsRowOf stands xs from until) rows → seen ≡ rows → floor_of (estimates_of seen +ℤ pos (charges_of seen)) unit ≡ high_end xs from until (cut_of rows)
+high_end-cut_of stands xs from until rows seen holds is = ap (λ rows. floor_of (estimates_of rows +ℤ pos (charges_of rows)) unit) is ∙ ap₂ (λ z n. floor_of (z +ℤ pos n) unit) (estimates-cut_of stands xs from until rows holds) (charges-cut_of stands xs from until rows holds)
 
 pub root_cut-some : (n : ℕ) → 0 < n → root_cut n ≡ closed_row 0 n ∷ []
 root_cut-some zero some = absurd (omega arith)

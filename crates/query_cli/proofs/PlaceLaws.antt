@@ -1,109 +1,72 @@
--- Where the segments of a node's children stand, and what a segment of degree 0 gives.
-use Rattle.std.proofs.Common.{◌≡◌, ℕ, zero, suc, ◌+◌, ◌-◌, ◌*◌, ◌/◌, ◌^◌, ◌≤◌, ◌<◌, inl, inr, min, max, false, List, [], ◌∷◌, ◌++◌, length, take, drop, map, get_or, ℤ, pos, ◌-ℤ◌, ◌*ℤ◌, unsigned_abs, refl, sym, ap, subst, ◌∙◌, arith}
+-- The segment of a place of the fitted tree, and what a segment of degree 0 gives.
+use Rattle.std.proofs.Common.{◌≡◌, ℕ, zero, suc, ◌+◌, ◌-◌, ◌^◌, ◌≤◌, ◌<◌, ◌&&◌, true, inl, inr, min, max, false, List, [], ◌∷◌, length, take, drop, map, get_or, Option, Some, None, ℤ, pos, ◌-ℤ◌, ◌*ℤ◌, unsigned_abs, refl, sym, ap, ap₂, subst, ◌∙◌, arith}
+use Rattle.std.specs.Prelude.{◌==◌, ◌↔◌, IsNone, IfSome}
 use Rattle.std.proofs.lemmas.Int.{ints}
-use Rattle.std.proofs.lemmas.Bool.{cases_lt}
-use Rattle.std.proofs.lemmas.List.{length-take, length-drop, length-map, get_or-take, get_or-drop, get_or_past, map-append, drop-take, drop-drop, take-take, take_at, drop_at, take_all}
+use Rattle.std.proofs.lemmas.Bool.{cases_lt, cases_Bool}
+use Rattle.std.proofs.lemmas.Bool.Decides.{nat_tests}
+use Rattle.std.proofs.lemmas.List.{length-take, take_min, get_or_past}
 use Rattle.semantics.specs.Readings.{reading}
 use Rattle.semantics.specs.Sums.{total_below}
 use Rattle.semantics.proofs.SumLaws.{total_below-same, sum_below-le}
+use Rattle.segment.specs.declared.node_access.Children.{Children}
 use Rattle.segment.specs.declared.segments.Seg.{Seg}
-use Rattle.segment.specs.Shape.{plan, ranges, count, IsSplit}
+use Rattle.segment.specs.Nodes.{Forest, Place, IsForest, IsSeriesTree, find_seg, seg_at, root_place, left_of, right_of}
+use Rattle.segment.specs.Shape.{Range, shape, IsSplit}
 use Rattle.segment.specs.Measure.{unit, estimate_at, miss_at, miss, AreReadings}
-use Rattle.segment.specs.Fit.{flat_of, fit_over}
-use Rattle.segment.proofs.ShapeLaws.{plan-leaf, plan-fork, count-fork, count-plan, length-ranges}
+use Rattle.segment.specs.Fit.{flat_of, fit_of, fit_over}
+use Rattle.segment.specs.Tree.{fitted_series}
 use Rattle.segment.proofs.Bounds.{spread-le}
 use Rattle.segment.proofs.FitLaws.{flat-le}
+use Rattle.segment.proofs.TreeLaws.{all_segs-fitted_series, all_readings-fitted_series}
 use Rattle.query_cli.specs.declared.cut.CutRow.{CutRow}
 use Rattle.query_cli.specs.Cuts.{closed_row, estimate, charge}
-use Rattle.query_cli.specs.Rows.{shown, fits_of, HasTree, IsFlat, no_seg, closed_by, IsSmall, IsRowOf}
+use Rattle.query_cli.specs.Descents.{fitted_forest}
+use Rattle.query_cli.specs.Rows.{shown, place_at, IsFlat, closed_by, IsSmall, IsRowOf}
 use Rattle.query_cli.proofs.NodeLaws.{has_split}
 use Rattle.query_cli.proofs.Containment.{length-part, reading-part}
 
--- ---- parts of a list
-
--- what stands from a place on begins with y, then fs, then gs
-record Parts {X : Type 0} (zs : List X) (p m n : ℕ) (y : X) (fs gs : List X) : Type 0 where
-  here : (d : X) → get_or zs p d ≡ y
-  within : p < length zs
-  left : take m (drop (p + 1) zs) ≡ fs
-  right : take n (drop (p + 1 + m) zs) ≡ gs
-
-parts_of : {X : Type 0} (zs : List X) (p m n : ℕ) (y : X) (fs gs : List X) → take (1 + (m + n)) (drop p zs) ≡ y ∷ (fs ++ gs) → length fs ≡ m → length gs ≡ n → Parts zs p m n y fs gs
-parts_of {X} zs p m n y fs gs is lf lg =
-    let front = λ (d : X). get_or-take (1 + (m + n)) (drop p zs) 0 d (omega arith) in
-    let rest : take (m + n) (drop (p + 1) zs) ≡ fs ++ gs =
-    sym (ap (take (m + n)) (drop-drop 1 p zs)) ∙ sym (drop-take 1 (m + n) (drop p zs)) ∙ ap (drop 1) is in
-    let whole : length (take (1 + (m + n)) (drop p zs)) ≡ suc (length (fs ++ gs)) = ap length is in
-    record {
-      here = λ d. ap (λ k. get_or zs k d) (omega arith) ∙ sym (get_or-drop p zs 0 d) ∙ sym (front d) ∙ ap (λ ws. get_or ws 0 d) is;
-      within = omega (arith, whole, length-take (1 + (m + n)) (drop p zs), length-drop p zs);
-      left = sym (take-take m (m + n) (drop (p + 1) zs) (omega arith)) ∙ ap (take m) rest ∙ take_at fs gs m lf;
-      right = sym (ap (take n) (drop-drop m (p + 1) zs)) ∙ sym (drop-take m n (drop (p + 1) zs)) ∙ ap (drop m) rest ∙ drop_at fs gs m lf;
-    }
-
--- ---- the segments of a node and of its children
-
-abbrev fits_at : List ℤ → ℕ → ℕ → List Seg
-fits_at xs start len = map (fit_over 0 xs) (ranges (plan start len))
+-- ---- the segment of a place of the fitted tree
 
 abbrev fit_at : List ℤ → ℕ → ℕ → Seg
 fit_at xs start len = fit_over 0 xs record { start = start; len = len }
 
-length-fits_at : (xs : List ℤ) (start len : ℕ) → length (fits_at xs start len) ≡ count (plan start len)
-length-fits_at xs start len = length-map (ranges (plan start len)) (fit_over 0 xs) ∙ length-ranges (plan start len)
+both_equal : (a b c d : ℕ) → ((a == b) && (c == d)) ≡ true → (a ≡ b) × (c ≡ d)
+both_equal a b c d h = (grind (arith, nat_tests), grind (arith, nat_tests))
 
-fork_parts : (xs : List ℤ) (segs : List Seg) (place start len s : ℕ) → IsSplit len s → HasTree xs segs place start len
-    → Parts segs place (count (plan start s)) (count (plan (start + s) (len - s))) (fit_at xs start len) (fits_at xs start s) (fits_at xs (start + s) (len - s))
-fork_parts xs segs place start len s split tree =
-    let m = count (plan start s) in
-    let n = count (plan (start + s) (len - s)) in
-    let many : 1 + (m + n) ≡ count (plan start len) = omega (arith, count-fork start len s split) in
-    let is : fits_at xs start len ≡ fit_at xs start len ∷ (fits_at xs start s ++ fits_at xs (start + s) (len - s)) =
-    ap (λ p. map (fit_over 0 xs) (ranges p)) (plan-fork start len s split) ∙ ap (λ gs. fit_at xs start len ∷ gs) (map-append (fit_over 0 xs) (ranges (plan start s)) (ranges (plan (start + s) (len - s)))) in
-    parts_of segs place m n (fit_at xs start len) (fits_at xs start s) (fits_at xs (start + s) (len - s))
-    (ap (λ k. take k (drop place segs)) many ∙ tree ∙ is) (length-fits_at xs start s) (length-fits_at xs (start + s) (len - s))
+-- the fit of a range is told by its start and its length
+same_fit : (xs : List ℤ) (q r : Range) → q.start ≡ r.start → length (take q.len (drop q.start xs)) ≡ r.len → fit_over 0 xs q ≡ fit_over 0 xs r
+same_fit xs q r starts spans =
+    let ys = drop q.start xs in
+    let same : take q.len ys ≡ take r.len (drop r.start xs) =
+    sym (take_min q.len ys) ∙ ap (λ n. take n ys) (sym (length-take q.len ys) ∙ spans) ∙ ap (λ n. take r.len (drop n xs)) starts in
+    ap₂ (fit_of 0) starts same
 
-leaf_parts : (xs : List ℤ) (segs : List Seg) (place start len : ℕ) → len ≤ 16 → HasTree xs segs place start len
-    → Parts segs place 0 0 (fit_at xs start len) [] []
-leaf_parts xs segs place start len small tree =
-    let is : take 1 (drop place segs) ≡ fit_at xs start len ∷ [] = rw (plan-leaf start len small) at tree in
-    parts_of segs place 0 0 (fit_at xs start len) [] [] is refl refl
-
--- the segment of a node stands at its place
-pub record StandsAt (xs : List ℤ) (segs : List Seg) (place start len : ℕ) : Type 0 where
-  pub within : place < length segs
-  pub is : get_or segs place no_seg ≡ fit_over 0 xs record { start = start; len = len }
-
-pub stands_at : (xs : List ℤ) (segs : List Seg) (place start len : ℕ) → HasTree xs segs place start len → StandsAt xs segs place start len
-stands_at xs segs place start len tree = elim (cases_lt 16 len) [
-  | inl large ↦
-      let s = has_split len large in
-      let parts = fork_parts xs segs place start len s.0 s.1 tree in
-      record { within = parts.within; is = parts.here no_seg }
-  | inr small ↦
-      let parts = leaf_parts xs segs place start len small tree in
-      record { within = parts.within; is = parts.here no_seg }
+find_fit : (xs : List ℤ) (rs : List Range) (r : Range) (g : Seg) → find_seg (map (fit_over 0 xs) rs) r ≡ Some g → g ≡ fit_over 0 xs r
+find_fit xs [] r g e = cc
+find_fit xs (q ∷ rs) r g e = elim (cases_Bool ((q.start == r.start) && (length (take q.len (drop q.start xs)) == r.len))) [
+  | inl hit ↦
+      let found : Some (fit_over 0 xs q) ≡ Some g = rw hit at e in
+      let is : fit_over 0 xs q ≡ g = cc in
+      let both = both_equal q.start r.start (length (take q.len (drop q.start xs))) r.len hit in
+      sym is ∙ same_fit xs q r both.0 both.1
+  | inr missed ↦ find_fit xs rs r g (rw missed at e)
 ]
 
-pub left_tree : (xs : List ℤ) (segs : List Seg) (place start len s : ℕ) → IsSplit len s → HasTree xs segs place start len → HasTree xs segs (place + 1) start s
-left_tree xs segs place start len s split tree = (fork_parts xs segs place start len s split tree).left
+-- the segment of a place is the fit of its range
+seg_is_fit : (xs : List ℤ) (start len : ℕ) (g : Seg) → seg_at (fitted_forest xs) (place_at start len) ≡ Some g → g ≡ fit_at xs start len
+seg_is_fit xs start len g e =
+    let r : Range = record { start = start; len = len } in
+    find_fit xs (shape (length xs)) r g (ap (λ gs. find_seg gs r) (sym (all_segs-fitted_series 0 xs)) ∙ e)
 
--- a tree of k blocks has 2k - 1 nodes
-pub right_tree : (xs : List ℤ) (segs : List Seg) (place start len s : ℕ) → 0 < s → IsSplit len s → HasTree xs segs place start len → HasTree xs segs (place + 2 * ((s + 15) / 16)) (start + s) (len - s)
-right_tree xs segs place start len s some split tree =
-    let e : place + 1 + count (plan start s) ≡ place + 2 * ((s + 15) / 16) = omega (arith, count-plan start s some) in
-    subst (λ k. HasTree xs segs k (start + s) (len - s)) e (fork_parts xs segs place start len s split tree).right
+series_length : (xs : List ℤ) (n : ℕ) → IsSeriesTree n (fitted_series 0 xs) → n ≡ length xs
+series_length [] n h = h
+series_length (x ∷ xs) n h = sym h.long ∙ ap length (all_readings-fitted_series 0 (x ∷ xs))
 
-pub root_tree : (xs : List ℤ) (segs : List Seg) → 0 < length xs → segs ≡ fits_of xs → HasTree xs segs 0 0 (length xs)
-root_tree [] segs some is = absurd (omega arith)
-root_tree (x ∷ xs) segs some is =
-    let ys = x ∷ xs in
-    let long : length segs ≡ count (plan 0 (length ys)) = ap length is ∙ length-fits_at ys 0 (length ys) in
-    take_all (count (plan 0 (length ys))) segs (omega arith) ∙ is
-
-pub length-fits_of : (xs : List ℤ) → length xs ≤ 2 ^ 20 → length (fits_of xs) ≤ 2 ^ 18
-length-fits_of [] few = omega arith
-length-fits_of (x ∷ xs) few = omega (arith, length-fits_at (x ∷ xs) 0 (length (x ∷ xs)), count-plan 0 (length (x ∷ xs)) (omega arith))
+-- there is one series, of these readings
+pub one_series : (xs : List ℤ) (lengths : List ℕ) → IsForest lengths (fitted_forest xs) → lengths ≡ length xs ∷ []
+one_series xs [] h = absurd h
+one_series xs (n ∷ []) h = ap (λ k. k ∷ []) (series_length xs n h.0)
+one_series xs (n ∷ m ∷ ns) h = absurd h.1
 
 -- ---- what a segment of degree 0 gives
 
@@ -162,70 +125,85 @@ closed_estimate : (xs : List ℤ) (from until start len : ℕ) → estimate xs f
 closed_estimate xs from until start len = flat_total (take len (drop start xs)) (max from start - start) (min until (start + len) - max from start)
 
 -- the closed row of a node
-abbrev row_for : List ℤ → ℕ → ℕ → ℕ → ℕ → ℕ → CutRow
-row_for xs from until place start len =
-    record { place = place; start = start; len = len; opened = false; estimate = estimate xs from until (closed_row start len); charge = charge xs from until (closed_row start len) }
+abbrev row_for : {I : Type 0} → List ℤ → ℕ → ℕ → I → ℕ → ℕ → CutRow I
+row_for xs from until id start len =
+    record { id = id; start = start; len = len; opened = false; estimate = estimate xs from until (closed_row start len); charge = charge xs from until (closed_row start len) }
 
-closed_is : (xs : List ℤ) (from until place start len : ℕ) → start + len ≤ length xs → closed_by (fit_over 0 xs record { start = start; len = len }) place from until ≡ row_for xs from until place start len
-closed_is xs from until place start len inside =
+closed_is : {I : Type 0} (xs : List ℤ) (from until : ℕ) (id : I) (start len : ℕ) → start + len ≤ length xs → closed_by id (fit_at xs start len) from until ≡ row_for xs from until id start len
+closed_is xs from until id start len inside =
     rw (length-part xs start len inside)
-    (ap (λ (z : ℤ). record { place = place; start = start; len = len; opened = false; estimate = z; charge = charge xs from until (closed_row start len) }) (sym (closed_estimate xs from until start len)))
+    (ap (λ (z : ℤ). record { id = id; start = start; len = len; opened = false; estimate = z; charge = charge xs from until (closed_row start len) }) (sym (closed_estimate xs from until start len)))
 
--- the closed row of the segment at a place
-pub closed_holds : (xs : List ℤ) (segs : List Seg) (seg : Seg) (from until place start len : ℕ) → 0 < len → start + len ≤ length xs → HasTree xs segs place start len
-    → seg ≡ fit_over 0 xs record { start = start; len = len } → IsSmall (closed_by seg place from until)
-    → IsRowOf xs segs from until (closed_by seg place from until) × (shown (closed_by seg place from until) ≡ closed_row start len)
-closed_holds xs segs seg from until place start len some inside tree is small =
-    let e : closed_by seg place from until ≡ row_for xs from until place start len = ap (λ g. closed_by g place from until) is ∙ closed_is xs from until place start len inside in
-    let holds : IsRowOf xs segs from until (row_for xs from until place start len) =
-    record { some = some; inside = inside; tree = tree; estimated = refl; charged = refl; small = subst IsSmall e small } in
-    (subst (IsRowOf xs segs from until) (sym e) holds, ap shown e)
+-- a node that was read, with its segment
+pub record IsRead {I : Type 0} (stands : I → Place → Type 0) (xs : List ℤ) (from until start len : ℕ) (id : I) (seg : Seg) : Type 0 where
+  pub flat : IsFlat seg
+  pub row : (made : CutRow I) → made ≡ closed_by id seg from until → IsSmall made → IsRowOf stands xs from until made × (shown made ≡ closed_row start len)
 
--- what is known of the children of a row that is split at s, where the right one stands at a place q
-pub record Children (xs : List ℤ) (segs : List Seg) (from until : ℕ) (row : CutRow) (s q : ℕ) : Type 0 where
-  pub left_within : row.place + 1 < length segs
-  pub right_within : q < length segs
-  pub left_flat : IsFlat (get_or segs (row.place + 1) no_seg)
-  pub right_flat : IsFlat (get_or segs q no_seg)
-  pub left : (made : CutRow) → made ≡ closed_by (get_or segs (row.place + 1) no_seg) (row.place + 1) from until → IsSmall made → IsRowOf xs segs from until made × (shown made ≡ closed_row row.start s)
-  pub right : (made : CutRow) → made ≡ closed_by (get_or segs q no_seg) q from until → IsSmall made → IsRowOf xs segs from until made × (shown made ≡ closed_row (row.start + s) (row.len - s))
+-- the closed row that was made of a node
+made_holds : {I : Type 0} (stands : I → Place → Type 0) (xs : List ℤ) (from until start len : ℕ) (id : I) (seg : Seg) (made : CutRow I) → 0 < len → start + len ≤ length xs
+    → stands id (place_at start len) → seg ≡ fit_at xs start len → made ≡ closed_by id seg from until → IsSmall made
+    → IsRowOf stands xs from until made × (shown made ≡ closed_row start len)
+made_holds {I} stands xs from until start len id seg made some inside node fitted is small =
+    let e : made ≡ row_for xs from until id start len = is ∙ ap (λ g. closed_by id g from until) fitted ∙ closed_is xs from until id start len inside in
+    let holds : IsRowOf stands xs from until (row_for xs from until id start len) =
+    record { some = some; inside = inside; node = node; estimated = refl; charged = refl; small = subst IsSmall e small } in
+    (subst (IsRowOf stands xs from until) (sym e) holds, ap shown e)
 
--- the closed row that was made of the segment at a place
-made_holds : (xs : List ℤ) (segs : List Seg) (from until place start len : ℕ) (made : CutRow) → 0 < len → start + len ≤ length xs → HasTree xs segs place start len
-    → made ≡ closed_by (get_or segs place no_seg) place from until → IsSmall made → IsRowOf xs segs from until made × (shown made ≡ closed_row start len)
-made_holds xs segs from until place start len made some inside tree is small =
-    let holds = closed_holds xs segs (get_or segs place no_seg) from until place start len some inside tree (stands_at xs segs place start len tree).is (subst IsSmall is small) in
-    subst (λ row. IsRowOf xs segs from until row × (shown row ≡ closed_row start len)) (sym is) holds
-
-pub children_of : (xs : List ℤ) (segs : List Seg) (from until : ℕ) (row : CutRow) (s q : ℕ) → length xs ≤ 2 ^ 20 → AreReadings xs → IsRowOf xs segs from until row → (16 < row.len) × IsSplit row.len s → q ≡ row.place + 2 * ((s + 15) / 16)
-    → Children xs segs from until row s q
-children_of xs segs from until row s q few small holds (large, split) at =
-    let inside = holds.inside in
-    let below = split.below in
-    let some : 0 < s = omega (arith, split.greatest) in
-    let left : HasTree xs segs (row.place + 1) row.start s = left_tree xs segs row.place row.start row.len s split holds.tree in
-    let right : HasTree xs segs q (row.start + s) (row.len - s) = subst (λ k. HasTree xs segs k (row.start + s) (row.len - s)) (sym at) (right_tree xs segs row.place row.start row.len s some split holds.tree) in
-    let left_at = stands_at xs segs (row.place + 1) row.start s left in
-    let right_at = stands_at xs segs q (row.start + s) (row.len - s) right in
+read_node : {I : Type 0} (stands : I → Place → Type 0) (xs : List ℤ) (from until start len : ℕ) (id : I) (seg : Seg) → length xs ≤ 2 ^ 20 → AreReadings xs → 0 < len → start + len ≤ length xs
+    → stands id (place_at start len) → seg_at (fitted_forest xs) (place_at start len) ≡ Some seg → IsRead stands xs from until start len id seg
+read_node stands xs from until start len id seg few small some inside node found =
+    let fitted : seg ≡ fit_at xs start len = seg_is_fit xs start len seg found in
     record {
-      left_within = left_at.within;
-      right_within = right_at.within;
-      left_flat = rw left_at.is (fit_is_flat xs row.start s some (omega arith) few small);
-      right_flat = rw right_at.is (fit_is_flat xs (row.start + s) (row.len - s) (omega arith) (omega arith) few small);
-      left = λ made. made_holds xs segs from until (row.place + 1) row.start s made some (omega arith) left;
-      right = λ made. made_holds xs segs from until q (row.start + s) (row.len - s) made (omega arith) (omega arith) right;
+      flat = subst IsFlat (sym fitted) (fit_is_flat xs start len some inside few small);
+      row = λ made. made_holds stands xs from until start len id seg made some inside node fitted;
     }
 
--- the closed row of the root
-pub root_of : (xs : List ℤ) (segs : List Seg) (from until : ℕ) (made : CutRow) → 0 < length xs → segs ≡ fits_of xs → made ≡ closed_by (get_or segs 0 no_seg) 0 from until → IsSmall made
-    → IsRowOf xs segs from until made × (shown made ≡ closed_row 0 (length xs))
-root_of xs segs from until made some fitted is small = made_holds xs segs from until 0 0 (length xs) made some (omega arith) (root_tree xs segs some fitted) is small
+-- there are readings, and the root that was read is over all of them
+pub record IsRootRead {I : Type 0} (stands : I → Place → Type 0) (xs : List ℤ) (from until : ℕ) (id : I) (seg : Seg) : Type 0 where
+  pub some : 0 < length xs
+  pub read : IsRead stands xs from until 0 (length xs) id seg
 
-pub record RootStands (segs : List Seg) : Type 0 where
-  pub within : 0 < length segs
-  pub flat : IsFlat (get_or segs 0 no_seg)
+pub root_read : {I : Type 0} (stands : I → Place → Type 0) (means : Forest → Type 0) (xs : List ℤ) (from until : ℕ) (lengths : List ℕ) (o : Option (I × Seg)) (id : I) (seg : Seg) → length xs ≤ 2 ^ 20 → AreReadings xs → IsForest lengths (fitted_forest xs)
+    → o ≡ Some (id, seg) → (IsNone o ↔ (get_or lengths 0 0 ≡ 0)) → IfSome o (λ r. stands r.0 (root_place 0 (get_or lengths 0 0)))
+    → IfSome o (λ r. (forest : Forest) → means forest → seg_at forest (root_place 0 (get_or lengths 0 0)) ≡ Some r.1) → means (fitted_forest xs) → IsRootRead stands xs from until id seg
+root_read stands means xs from until lengths None id seg few small fits is none node found meant = cc
+root_read stands means xs from until lengths (Some r) id seg few small fits is none node found meant =
+    let n : get_or lengths 0 0 ≡ length xs = ap (λ ns. get_or ns 0 0) (one_series xs lengths fits) in
+    let same : r ≡ (id, seg) = cc in
+    let some : 0 < length xs = elim (cases_lt 0 (length xs)) [
+      | inl lt ↦ lt
+      | inr past ↦ let bad : true ≡ false = none.1 (omega arith) in cc
+    ] in
+    let read = read_node stands xs from until 0 (length xs) r.0 r.1 few small some (omega arith) (subst (λ k. stands r.0 (place_at 0 k)) n node) (subst (λ k. seg_at (fitted_forest xs) (place_at 0 k) ≡ Some r.1) n (found (fitted_forest xs) meant)) in
+    record { some = some; read = subst (λ q. IsRead stands xs from until 0 (length xs) q.0 q.1) same read }
 
-pub root_stands : (xs : List ℤ) (segs : List Seg) → 0 < length xs → length xs ≤ 2 ^ 20 → AreReadings xs → segs ≡ fits_of xs → RootStands segs
-root_stands xs segs some few small fitted =
-    let at = stands_at xs segs 0 0 (length xs) (root_tree xs segs some fitted) in
-    record { within = at.within; flat = rw at.is (fit_is_flat xs 0 (length xs) some (omega arith) few small) }
+-- no root was read where there are no readings
+pub root_none : {I : Type 0} (xs : List ℤ) (lengths : List ℕ) (o : Option (I × Seg)) → IsForest lengths (fitted_forest xs) → ((r : I × Seg) → o ≡ Some r → ⊥) → (IsNone o ↔ (get_or lengths 0 0 ≡ 0)) → length xs ≡ 0
+root_none xs lengths None fits other none = sym (ap (λ ns. get_or ns 0 0) (one_series xs lengths fits)) ∙ none.0 refl
+root_none xs lengths (Some r) fits other none = absurd (other r refl)
+
+-- the children that were read of a row's node
+pub record AreKids {I : Type 0} (stands : I → Place → Type 0) (xs : List ℤ) (from until : ℕ) (row : CutRow I) (kids : Children I) : Type 0 where
+  pub left_len : ℕ
+  pub split : IsSplit row.len left_len
+  pub left : IsRead stands xs from until row.start left_len kids.left kids.left_seg
+  pub right : IsRead stands xs from until (row.start + left_len) (row.len - left_len) kids.right kids.right_seg
+
+pub kids_of : {I : Type 0} (before stands : I → Place → Type 0) (xs : List ℤ) (from until : ℕ) (row : CutRow I) (kids : Children I) → length xs ≤ 2 ^ 20 → AreReadings xs → IsRowOf before xs from until row → 16 < row.len
+    → ((p : Place) (s : ℕ) → before row.id p → IsSplit p.range.len s → stands kids.left (left_of p s))
+    → ((p : Place) (s : ℕ) → before row.id p → IsSplit p.range.len s → seg_at (fitted_forest xs) (left_of p s) ≡ Some kids.left_seg)
+    → ((p : Place) (s : ℕ) → before row.id p → IsSplit p.range.len s → stands kids.right (right_of p s))
+    → ((p : Place) (s : ℕ) → before row.id p → IsSplit p.range.len s → seg_at (fitted_forest xs) (right_of p s) ≡ Some kids.right_seg)
+    → AreKids stands xs from until row kids
+kids_of before stands xs from until row kids few small holds large left left_seg right right_seg =
+    let p = place_at row.start row.len in
+    let s = has_split row.len large in
+    let inside = holds.inside in
+    let below = s.1.below in
+    let some : 0 < s.0 = omega (arith, s.1.greatest) in
+    record {
+      left_len = s.0;
+      split = s.1;
+      left = read_node stands xs from until row.start s.0 kids.left kids.left_seg few small some (omega arith) (left p s.0 holds.node s.1) (left_seg p s.0 holds.node s.1);
+      right = read_node stands xs from until (row.start + s.0) (row.len - s.0) kids.right kids.right_seg few small (omega arith) (omega arith) (right p s.0 holds.node s.1) (right_seg p s.0 holds.node s.1);
+    }

@@ -1,24 +1,11 @@
--- Laws of rows: their sums, and the first of the greatest charge.
-use Rattle.std.proofs.Common.{◌≡◌, ℕ, ◌+◌, ◌<◌, ◌≤◌, List, length, map, get_or, drop, ℤ, ◌+ℤ◌, to_z, of_z, ap, arith, below_more}
-use Rattle.std.specs.Int.{w128}
-use Rattle.std.proofs.lemmas.Int.{ints, to_z-of_z, fits_signed_from_abs}
-use Rattle.std.proofs.lemmas.List.{get_or-map, at_drop_more}
+-- Laws of rows: the first of the greatest charge.
+use Rattle.std.proofs.Common.{◌≡◌, ℕ, ◌+◌, ◌<◌, ◌≤◌, List, length, map, get_or, ap, arith, below_more}
+use Rattle.std.proofs.lemmas.List.{get_or-map}
 use Rattle.query_cli.specs.declared.cut.CutRow.{CutRow}
-use Rattle.query_cli.specs.Rows.{no_row, row_charge, estimates_of, IsSmall, IsFirstGreatest}
+use Rattle.query_cli.specs.Rows.{row_charge, IsFirstGreatest}
 
--- an estimate as it is read
-pub read_estimate : (row : CutRow) → IsSmall row → to_z w128 (of_z w128 row.estimate) ≡ row.estimate
-read_estimate row small = to_z-of_z w128 row.estimate (fits_signed_from_abs w128 row.estimate (omega (arith, small.estimate)))
-
--- one more row is summed
-pub estimates_more : (rows : List CutRow) (i : ℕ) (s t : ℤ) → i < length rows → (s +ℤ estimates_of (drop i rows)) ≡ estimates_of rows → t ≡ (s +ℤ (get_or rows i no_row).estimate)
-    → (t +ℤ estimates_of (drop (i + 1) rows)) ≡ estimates_of rows
-estimates_more rows i s t lt so sum =
-    let e : estimates_of (drop i rows) ≡ (get_or rows i no_row).estimate +ℤ estimates_of (drop (i + 1) rows) = at_drop_more estimates_of rows i no_row lt in
-    omega (arith, ints)
-
-pub charge_at : (rows : List CutRow) (i : ℕ) → i < length rows → get_or (map row_charge rows) i 0 ≡ (get_or rows i no_row).charge
-charge_at rows i lt = get_or-map row_charge rows i no_row 0 lt
+pub charge_at : {I : Type 0} (rows : List (CutRow I)) (i : ℕ) (row : CutRow I) → i < length rows → get_or (map row_charge rows) i 0 ≡ (get_or rows i row).charge
+charge_at rows i row lt = get_or-map row_charge rows i row 0 lt
 
 -- at is the first of the greatest among the first i numbers
 pub record IsBest (cs : List ℕ) (i at : ℕ) : Type 0 where

@@ -2,9 +2,15 @@
 -- interval is no wider than a budget.
 use Rattle.std.specs.Prelude.{◌≡◌, ℕ, zero, suc, ◌≤◌, ◌<◌, ◌==◌, List, [], ◌∷◌, ◌++◌, length, take, drop, get_or, max, if◌then◌else◌, ℤ, pos, ◌≤ℤ◌}
 use Rattle.semantics.specs.Readings.{plain_sum}
+use Rattle.segment.specs.Nodes.{Forest}
 use Rattle.segment.specs.Shape.{Plan, leaf, fork, plan}
+use Rattle.segment.specs.Tree.{fitted_series}
 use Rattle.query_cli.specs.declared.descent.Answer.{Answer}
 use Rattle.query_cli.specs.Cuts.{Row, closed_row, opened_row, charge, low_end, high_end, width, IsCut, opened_in}
+
+-- the one tree of the fits of degree 0
+abbrev pub fitted_forest : List ℤ → Forest
+fitted_forest xs = fitted_series 0 xs ∷ []
 
 -- the cut of the root over n readings
 abbrev pub root_cut : ℕ → List Row

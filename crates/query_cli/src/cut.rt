@@ -1,13 +1,13 @@
 //! The rows of a cut, and the interval that they give to a sum.
 
-ghost use Rattle.std.specs.Prelude.{◌≡◌, ℕ, ◌+◌, ◌-◌, ◌*◌, ◌^◌, ◌<◌, ◌≤◌, true, length, map, min, max, pos, ◌+ℤ◌, ◌-ℤ◌, ◌*ℤ◌, unsigned_abs, slice_index_or};
+ghost use Rattle.std.specs.Prelude.{◌≡◌, ℕ, ◌+◌, ◌-◌, ◌*◌, ◌^◌, ◌<◌, ◌≤◌, true, length, map, min, max, pos, ◌+ℤ◌, ◌-ℤ◌, ◌*ℤ◌, unsigned_abs};
 ghost use Rattle.std.specs.List.{All, count_by};
 ghost use Rattle.semantics.specs.Readings.{from_zero};
 ghost use Rattle.semantics.specs.Quotients.{floor_of, ceil_of};
 ghost use Rattle.semantics.specs.Sums.{total_below};
 ghost use Rattle.segment.specs.Measure.{unit, AreReadings};
 ghost use Rattle.query_cli.specs.Cuts.{opened_row, exact_behind, estimate};
-ghost use Rattle.query_cli.specs.Rows.{IsFlat, no_seg, closed_by, estimates_of, charges_of, IsSmall, row_charge, IsFirstGreatest};
+ghost use Rattle.query_cli.specs.Rows.{IsFlat, closed_by, estimates_of, charges_of, IsSmall, row_charge, IsFirstGreatest};
 
 use poly::{minus, plus};
 use segment::Seg;
@@ -17,9 +17,8 @@ const UNIT: i128 = 1 << 14;
 
 /// A node that stands in a cut, with what it gives to the sum over a range.
 #[derive(Clone, Copy, Drop)]
-pub(crate) struct CutRow {
-    /// Where its segment stands among all of the tree, in preorder.
-    pub(crate) place: u32,
+pub(crate) struct CutRow<I> {
+    pub(crate) id: I,
     pub(crate) start: u32,
     pub(crate) len: u32,
     pub(crate) opened: bool,
@@ -46,17 +45,15 @@ fn level_sum(count: u32, level: i64) -> i128
     i128::from(count) * i128::from(level)
 }
 
-/// The closed row of the segment at a place.
-pub(crate) fn closed(segs: &[Seg], place: u32, from: u32, until: u32) -> CutRow
-    requires within { place < length segs.now }
-    requires flat { IsFlat (slice_index_or segs.now place no_seg) }
-    ensures row { result ≡ closed_by (slice_index_or segs.now place no_seg) place from until }
+/// The closed row of a node, by its segment.
+pub(crate) fn closed<I: Copy>(id: I, seg: &Seg, from: u32, until: u32) -> CutRow<I>
+    requires flat { IsFlat seg.now }
+    ensures row { result ≡ closed_by id seg.now from until }
     ensures small { IsSmall result }
 {
-    let seg = &segs[place as usize];
     let shared = shared(seg.start, seg.len, from, until);
     CutRow {
-        place,
+        id,
         start: seg.start,
         len: seg.len,
         opened: false,
@@ -89,9 +86,9 @@ fn exact_sum(xs: &[i32], first: usize, count: usize) -> i128
     sum
 }
 
-impl CutRow {
+impl<I: Copy> CutRow<I> {
     /// The row opened: it gives the readings themselves.
-    pub(crate) fn opened(&self, xs: &[i32], from: u32, until: u32) -> CutRow
+    pub(crate) fn opened(&self, xs: &[i32], from: u32, until: u32) -> CutRow<I>
         requires few { length xs.now ≤ 2 ^ 20 }
         requires small { AreReadings xs.now }
         requires order { from ≤ until }
@@ -112,7 +109,7 @@ impl CutRow {
 }
 
 /// The first row of the greatest charge.
-pub(crate) fn heaviest(rows: &[CutRow]) -> usize
+pub(crate) fn heaviest<I: Copy>(rows: &[CutRow<I>]) -> usize
     requires { 0 < length rows.now }
     ensures { IsFirstGreatest (map row_charge rows.now) result }
 {
@@ -126,7 +123,7 @@ pub(crate) fn heaviest(rows: &[CutRow]) -> usize
 }
 
 /// The sum of the rows' estimates.
-fn estimate_of(rows: &[CutRow]) -> i128
+fn estimate_of<I: Copy>(rows: &[CutRow<I>]) -> i128
     requires few { length rows.now ≤ 2 ^ 20 }
     requires small { All IsSmall rows.now }
     ensures value { result ≡ estimates_of rows.now }
@@ -140,7 +137,7 @@ fn estimate_of(rows: &[CutRow]) -> i128
 }
 
 /// The sum of the rows' charges.
-fn charge_of(rows: &[CutRow]) -> u128
+fn charge_of<I: Copy>(rows: &[CutRow<I>]) -> u128
     requires few { length rows.now ≤ 2 ^ 20 }
     requires small { All IsSmall rows.now }
     ensures value { result ≡ charges_of rows.now }
@@ -205,7 +202,7 @@ impl Interval {
 }
 
 /// The interval that the rows give.
-pub(crate) fn interval_of(rows: &[CutRow]) -> Interval
+pub(crate) fn interval_of<I: Copy>(rows: &[CutRow<I>]) -> Interval
     requires few { length rows.now ≤ 2 ^ 20 }
     requires small { All IsSmall rows.now }
     ensures low { result.lo ≡ ceil_of (estimates_of rows.now -ℤ pos (charges_of rows.now)) unit }
@@ -215,7 +212,7 @@ pub(crate) fn interval_of(rows: &[CutRow]) -> Interval
 }
 
 /// How many rows are opened.
-pub(crate) fn opened_in(rows: &[CutRow]) -> usize
+pub(crate) fn opened_in<I: Copy>(rows: &[CutRow<I>]) -> usize
     ensures { result ≡ count_by (λ row. row.opened) rows.now }
 {
     rows.iter().filter(|row| row.opened).count()

@@ -1,24 +1,25 @@
 // The answer of `once`.
 
-ghost use Rattle.std.specs.Prelude.{◌≡◌, ◌≤◌, length, string_bytes, true, Some, None, Ok, Err, IfOk, IfErr, List, ℤ};
+ghost use Rattle.std.specs.Prelude.{◌≡◌, ◌≤◌, ◌^◌, ◌≤ℤ◌, ◌-ℤ◌, pos, [], length, string_bytes, true, Some, None, Ok, Err, IfOk, IfErr, List, ℤ};
+ghost use Rattle.semantics.specs.Readings.{plain_sum};
+ghost use Rattle.seg_tree.specs.Trees.{IsTreeOf, value_of};
 ghost use Rattle.segment.specs.Measure.{AreReadings};
+ghost use Rattle.segment.specs.Tree.{fitted_series};
 ghost use Rattle.series_csv.specs.Column.{column_of, most_readings};
 ghost use Rattle.query_cli.specs.Answers.{IsOnceAnswer, IsSumLine, end_of, first_of, in_file, is_range_of, most_csv};
 ghost use Rattle.query_cli.specs.Causes.{IfRefused, IsCause};
 ghost use Rattle.query_cli.specs.Commands.{once};
 ghost use Rattle.query_cli.specs.Lines.{answer_line};
 ghost use Rattle.query_cli.specs.Refusals.{MayRefuseOnce};
-ghost use Rattle.query_cli.specs.Rows.{fits_of};
+ghost use Rattle.query_cli.specs.Descents.{Tells};
 ghost use Rattle.query_cli.specs.Views.{once_view};
 
 use crate::command::Once;
-use crate::descent::{Answer, descend};
+use crate::descent::{Answer, DescentErr, descend};
 use crate::files::read_csv;
 use crate::refusal::{Refusal, Stop};
-use num_text::Memory;
 use outside::Shelf;
-use seg_tree::{Arena, TreeErr};
-use segment::Seg;
+use seg_tree::{Arena, ArenaNodes, Tree, TreeErr};
 use series_csv::{CsvErr, read_column};
 use std::alloc::{AllocError, Global};
 
@@ -48,21 +49,48 @@ fn is_range(n: u32, from: i64, until: i64) -> bool
 // Room for the nodes of any one series.
 const MOST_NODES: u32 = 1 << 24;
 
-// The segments of the tree over the readings, in preorder.
-fn segments_of(alloc: Global, xs: &[i32]) -> Result<Vec<Seg>, AllocError>
+// The tree of the fits of degree 0 over the readings, in an arena without nodes.
+fn fitted(arena: &mut Arena, xs: &[i32]) -> Result<Tree, AllocError>
     requires few { length xs.now ≤ most_readings }
     requires small { AreReadings xs.now }
-    ensures { IfOk result (λ segs. segs.items ≡ fits_of xs.now) }
+    requires empty { arena.old.nodes ≡ [] }
+    requires flat { arena.old.degree ≡ 0 }
+    requires room { arena.old.limit ≡ 2 ^ 24 }
+    ensures tree { IfOk result (IsTreeOf arena.new.nodes) }
+    ensures fitted { IfOk result (λ t. value_of arena.new.nodes t ≡ fitted_series 0 xs.now) }
+{
+    match arena.build(xs) {
+        Ok(tree) => Ok(tree),
+        Err(TreeErr::Memory) => Err(AllocError),
+        Err(TreeErr::TooLong | TreeErr::ArenaFull) => unreachable!(),
+    }
+}
+
+// The answer of the descent over the tree of the readings.
+fn answer_over(
+    alloc: Global,
+    xs: &[i32],
+    from: u32,
+    until: u32,
+    budget: u128,
+) -> Result<Answer, AllocError>
+    requires few { length xs.now ≤ most_readings }
+    requires small { AreReadings xs.now }
+    requires order { from ≤ until }
+    requires until { until ≤ length xs.now }
+    ensures told { IfOk result (Tells xs.now from until budget) }
+    ensures above { IfOk result (λ a. a.lo ≤ℤ plain_sum xs.now (pos from) (pos until)) }
+    ensures below { IfOk result (λ a. plain_sum xs.now (pos from) (pos until) ≤ℤ a.hi) }
+    ensures wide { IfOk result (λ a. pos a.width ≡ (a.hi -ℤ a.lo)) }
+    ensures within { IfOk result (λ a. a.width ≤ budget) }
 {
     let mut arena = Arena::new(alloc, 0, MOST_NODES);
-    let tree = match arena.build(xs) {
-        Ok(tree) => tree,
-        Err(TreeErr::Memory) => return Err(AllocError),
-        Err(TreeErr::TooLong | TreeErr::ArenaFull) => unreachable!(),
-    };
-    match arena.segs_of(tree) {
-        Ok(segs) => Ok(segs),
-        Err(Memory) => Err(AllocError),
+    let trees = [fitted(&mut arena, xs)?];
+    let mut nodes = ArenaNodes::new(&arena, &trees);
+    match descend(alloc, &mut nodes, &mut (), xs, from, until, budget) {
+        Ok(answer) => Ok(answer),
+        Err(DescentErr::Memory) => Err(AllocError),
+        Err(DescentErr::Failed | DescentErr::Bad) => unreachable!(),
     }
 }
 
@@ -103,9 +131,8 @@ fn sum_line(alloc: Global, command: &Once<'_>, xs: &[i32]) -> Result<String, All
     requires inside { is_range_of (length xs.now) command.now.from command.now.until ≡ true }
     ensures { IfOk result (λ t. IsSumLine (once_view command.now) xs.now (string_bytes t)) }
 {
-    let segs = segments_of(alloc, xs)?;
     let (from, until) = positions(xs.len() as u32, command);
-    let answer = descend(alloc, xs, &segs, from, until, command.budget)?;
+    let answer = answer_over(alloc, xs, from, until, command.budget)?;
     let text = line_of(alloc, &answer)?;
     Ok(text)
 }

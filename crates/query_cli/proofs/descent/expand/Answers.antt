@@ -1,93 +1,63 @@
-use Rattle.std.proofs.Common.{◌+◌, ◌*◌, ap, ◌∙◌, arith}
+use Rattle.std.proofs.Common.{ap, ◌∙◌}
+use Rattle.query_cli.specs.Descents.{fitted_forest}
 use Rattle.query_cli.specs.Rows.{cut_of, shown, IsRowOf}
-use Rattle.query_cli.proofs.PlaceLaws.{children_of}
-use Rattle.query_cli.proofs.ExpandLaws.{held, opened_is, split_is, All-split}
+use Rattle.query_cli.proofs.PlaceLaws.{AreKids, kids_of}
+use Rattle.query_cli.proofs.ExpandLaws.{held, opened_is, split_is, All-split, All-later}
 use Rattle.query_cli.proofs.descent.expand.Goals as goal
 
-pub overflow_add-right_place : goal.overflow_add-right_place
-overflow_add-right_place c =
-    let xs = c.args.xs.now in
-    let segs = c.args.segs.now in
-    let row = c.index.result.now in
-    let holds = held xs segs c.args.from c.args.until c.args.at c.args.rows.now.items row c.requires.holds c.requires.at c.index.ensures in
-    let q = row.place + 2 * c.div_ceil.result in
-    let kids = children_of xs segs c.args.from c.args.until row c.in-Some.left q c.requires.few c.requires.small holds c.in-Some.ensures (omega (arith, c.div_ceil.ensures)) in
-    omega (arith, kids.right_within)
+pub returns-then-row-le16-clause-cut : goal.returns-then-row-le16-clause-cut
+returns-then-row-le16-clause-cut g c =
+    opened_is c.args.rows.now.items c.args.at c.index.result.now c.opened.result c.requires.at c.index.ensures c.if-row-le16.true (ap shown c.opened.ensures.row)
 
-pub overflow_add-row : goal.overflow_add-row
-overflow_add-row c =
+pub closed-left-requires : goal.closed-left-requires
+closed-left-requires g c =
     let xs = c.args.xs.now in
-    let segs = c.args.segs.now in
+    let before = g.N.Nodes.stands c.args.nodes.now c.args.source.now in
+    let after = g.N.Nodes.stands c.children.new.self c.children.new.source in
     let row = c.index.result.now in
-    let holds = held xs segs c.args.from c.args.until c.args.at c.args.rows.now.items row c.requires.holds c.requires.at c.index.ensures in
-    let q = row.place + 2 * c.div_ceil.result in
-    let kids = children_of xs segs c.args.from c.args.until row c.in-Some.left q c.requires.few c.requires.small holds c.in-Some.ensures (omega (arith, c.div_ceil.ensures)) in
-    omega (arith, kids.left_within)
+    let made = c.in_ok-children in
+    let holds = held before xs c.args.from c.args.until c.args.at c.args.rows.now.items row c.requires.holds c.requires.at c.index.ensures in
+    let kids : AreKids after xs c.args.from c.args.until row made.children = kids_of before after xs c.args.from c.args.until row made.children c.requires.few c.requires.small holds c.if-row-le16.false
+    made.ensures.left (λ p s h k. made.ensures.left_seg p s (fitted_forest xs) h k c.requires.means) made.ensures.right (λ p s h k. made.ensures.right_seg p s (fitted_forest xs) h k c.requires.means) in
+    record { flat = kids.left.flat }
 
-pub closed-requires-clause-within : goal.closed-requires-clause-within
-closed-requires-clause-within c =
+pub closed-right-requires : goal.closed-right-requires
+closed-right-requires g c =
     let xs = c.args.xs.now in
-    let segs = c.args.segs.now in
+    let before = g.N.Nodes.stands c.args.nodes.now c.args.source.now in
+    let after = g.N.Nodes.stands c.children.new.self c.children.new.source in
     let row = c.index.result.now in
-    let holds = held xs segs c.args.from c.args.until c.args.at c.args.rows.now.items row c.requires.holds c.requires.at c.index.ensures in
-    let q = row.place + 2 * c.div_ceil.result in
-    let kids = children_of xs segs c.args.from c.args.until row c.in-Some.left q c.requires.few c.requires.small holds c.in-Some.ensures (omega (arith, c.div_ceil.ensures)) in
-    kids.left_within
+    let made = c.in_ok-children in
+    let holds = held before xs c.args.from c.args.until c.args.at c.args.rows.now.items row c.requires.holds c.requires.at c.index.ensures in
+    let kids : AreKids after xs c.args.from c.args.until row made.children = kids_of before after xs c.args.from c.args.until row made.children c.requires.few c.requires.small holds c.if-row-le16.false
+    made.ensures.left (λ p s h k. made.ensures.left_seg p s (fitted_forest xs) h k c.requires.means) made.ensures.right (λ p s h k. made.ensures.right_seg p s (fitted_forest xs) h k c.requires.means) in
+    record { flat = kids.right.flat }
 
-pub closed-requires-clause-flat : goal.closed-requires-clause-flat
-closed-requires-clause-flat c =
+pub returns-clause-cut : goal.returns-clause-cut
+returns-clause-cut g c =
     let xs = c.args.xs.now in
-    let segs = c.args.segs.now in
+    let before = g.N.Nodes.stands c.args.nodes.now c.args.source.now in
+    let after = g.N.Nodes.stands c.children.new.self c.children.new.source in
     let row = c.index.result.now in
-    let holds = held xs segs c.args.from c.args.until c.args.at c.args.rows.now.items row c.requires.holds c.requires.at c.index.ensures in
-    let q = row.place + 2 * c.div_ceil.result in
-    let kids = children_of xs segs c.args.from c.args.until row c.in-Some.left q c.requires.few c.requires.small holds c.in-Some.ensures (omega (arith, c.div_ceil.ensures)) in
-    kids.left_flat
+    let made = c.in_ok-children in
+    let holds = held before xs c.args.from c.args.until c.args.at c.args.rows.now.items row c.requires.holds c.requires.at c.index.ensures in
+    let kids : AreKids after xs c.args.from c.args.until row made.children = kids_of before after xs c.args.from c.args.until row made.children c.requires.few c.requires.small holds c.if-row-le16.false
+    made.ensures.left (λ p s h k. made.ensures.left_seg p s (fitted_forest xs) h k c.requires.means) made.ensures.right (λ p s h k. made.ensures.right_seg p s (fitted_forest xs) h k c.requires.means) in
+    let left = kids.left.row c.closed-left.result c.closed-left.ensures.row c.closed-left.ensures.small in
+    let right = kids.right.row c.closed-right.result c.closed-right.ensures.row c.closed-right.ensures.small in
+    ap cut_of c.in_ok-insert.ensures.items ∙ split_is c.args.rows.now.items c.args.at kids.left_len row c.closed-left.result c.closed-right.result c.requires.at c.index.ensures kids.split left.1 right.1
 
-pub closed-requires-in-Some-clause-within : goal.closed-requires-in-Some-clause-within
-closed-requires-in-Some-clause-within c =
+pub returns-clause-holds : goal.returns-clause-holds
+returns-clause-holds g c =
     let xs = c.args.xs.now in
-    let segs = c.args.segs.now in
+    let before = g.N.Nodes.stands c.args.nodes.now c.args.source.now in
+    let after = g.N.Nodes.stands c.children.new.self c.children.new.source in
     let row = c.index.result.now in
-    let holds = held xs segs c.args.from c.args.until c.args.at c.args.rows.now.items row c.requires.holds c.requires.at c.index.ensures in
-    let q = row.place + 2 * c.div_ceil.result in
-    let kids = children_of xs segs c.args.from c.args.until row c.in-Some.left q c.requires.few c.requires.small holds c.in-Some.ensures (omega (arith, c.div_ceil.ensures)) in
-    kids.right_within
-
-pub closed-requires-in-Some-clause-flat : goal.closed-requires-in-Some-clause-flat
-closed-requires-in-Some-clause-flat c =
-    let xs = c.args.xs.now in
-    let segs = c.args.segs.now in
-    let row = c.index.result.now in
-    let holds = held xs segs c.args.from c.args.until c.args.at c.args.rows.now.items row c.requires.holds c.requires.at c.index.ensures in
-    let q = row.place + 2 * c.div_ceil.result in
-    let kids = children_of xs segs c.args.from c.args.until row c.in-Some.left q c.requires.few c.requires.small holds c.in-Some.ensures (omega (arith, c.div_ceil.ensures)) in
-    kids.right_flat
-
-pub returns-in-None-clause-cut : goal.returns-in-None-clause-cut
-returns-in-None-clause-cut c =
-    opened_is c.args.rows.now.items c.args.at c.index.result.now c.opened.result c.requires.at c.index.ensures c.in-None.ensures (ap shown c.opened.ensures.row)
-
-pub returns-in_ok-insert-in-Some-clause-cut : goal.returns-in_ok-insert-in-Some-clause-cut
-returns-in_ok-insert-in-Some-clause-cut c =
-    let xs = c.args.xs.now in
-    let segs = c.args.segs.now in
-    let row = c.index.result.now in
-    let holds = held xs segs c.args.from c.args.until c.args.at c.args.rows.now.items row c.requires.holds c.requires.at c.index.ensures in
-    let q = row.place + 2 * c.div_ceil.result in
-    let kids = children_of xs segs c.args.from c.args.until row c.in-Some.left q c.requires.few c.requires.small holds c.in-Some.ensures (omega (arith, c.div_ceil.ensures)) in
-    let left = kids.left c.closed.result c.closed.ensures.row c.closed.ensures.small in
-    let right = kids.right c.closed-in-Some.result c.closed-in-Some.ensures.row c.closed-in-Some.ensures.small in
-    ap cut_of c.in_ok-insert-in-Some.ensures.items ∙ split_is c.args.rows.now.items c.args.at c.in-Some.left row c.closed.result c.closed-in-Some.result c.requires.at c.index.ensures c.in-Some.ensures.1 left.1 right.1
-
-pub returns-in_ok-insert-in-Some-clause-holds : goal.returns-in_ok-insert-in-Some-clause-holds
-returns-in_ok-insert-in-Some-clause-holds c =
-    let xs = c.args.xs.now in
-    let segs = c.args.segs.now in
-    let row = c.index.result.now in
-    let holds = held xs segs c.args.from c.args.until c.args.at c.args.rows.now.items row c.requires.holds c.requires.at c.index.ensures in
-    let q = row.place + 2 * c.div_ceil.result in
-    let kids = children_of xs segs c.args.from c.args.until row c.in-Some.left q c.requires.few c.requires.small holds c.in-Some.ensures (omega (arith, c.div_ceil.ensures)) in
-    let left = kids.left c.closed.result c.closed.ensures.row c.closed.ensures.small in
-    let right = kids.right c.closed-in-Some.result c.closed-in-Some.ensures.row c.closed-in-Some.ensures.small in
-    rw c.in_ok-insert-in-Some.ensures.items (All-split (IsRowOf xs segs c.args.from c.args.until) c.args.rows.now.items c.args.at c.closed.result c.closed-in-Some.result c.requires.holds left.0 right.0)
+    let made = c.in_ok-children in
+    let holds = held before xs c.args.from c.args.until c.args.at c.args.rows.now.items row c.requires.holds c.requires.at c.index.ensures in
+    let kids : AreKids after xs c.args.from c.args.until row made.children = kids_of before after xs c.args.from c.args.until row made.children c.requires.few c.requires.small holds c.if-row-le16.false
+    made.ensures.left (λ p s h k. made.ensures.left_seg p s (fitted_forest xs) h k c.requires.means) made.ensures.right (λ p s h k. made.ensures.right_seg p s (fitted_forest xs) h k c.requires.means) in
+    let left = kids.left.row c.closed-left.result c.closed-left.ensures.row c.closed-left.ensures.small in
+    let right = kids.right.row c.closed-right.result c.closed-right.ensures.row c.closed-right.ensures.small in
+    rw c.in_ok-insert.ensures.items (All-split (IsRowOf after xs c.args.from c.args.until) c.args.rows.now.items c.args.at c.closed-left.result c.closed-right.result
+    (All-later before after xs c.args.from c.args.until c.args.rows.now.items c.children.ensures.ids c.requires.holds) left.0 right.0)

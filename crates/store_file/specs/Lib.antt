@@ -1,0 +1,3 @@
+pub mod StoreValue
+pub mod Stored
+pub mod Parts

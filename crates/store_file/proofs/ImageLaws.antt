@@ -26,7 +26,7 @@ few-series : (n : ℕ) (t : Option SegTree) → IsSeriesTree n t → n ≤ 2 ^ 2
 few-series n None h = omega (arith, h)
 few-series n (Some t) h = h.few
 
-count-read : (n : ℕ) → n ≤ 2 ^ 20 → number_of 4 (bytes_of 4 n) ≡ n
+pub count-read : (n : ℕ) → n ≤ 2 ^ 20 → number_of 4 (bytes_of 4 n) ≡ n
 count-read n few = ap (number_of 4) (sym (append-nil (bytes_of 4 n))) ∙ number_of-bytes_of 4 n [] (omega (arith, few))
 
 -- an entry, and what follows it

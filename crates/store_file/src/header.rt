@@ -10,7 +10,7 @@ use std::alloc::AllocError;
 use tree_file::put_unsigned;
 
 /// The version that is written.
-const VERSION: u8 = 1;
+pub(crate) const VERSION: u8 = 1;
 
 /// The fixed part of a header.
 #[derive(Clone, Copy, Debug)]

@@ -3,11 +3,13 @@
 
 mod header;
 mod laws;
+mod reading;
 mod store;
 #[cfg(test)]
 mod tests;
 mod trees;
 
 pub use header::{Entry, Fixed};
-pub use laws::images_differ;
+pub use laws::{headers_keep, images_differ};
+pub use reading::{entry_len, read_entry, read_fixed};
 pub use store::{Store, Stored};

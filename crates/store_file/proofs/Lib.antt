@@ -1,0 +1,4 @@
+pub mod HeaderLaws
+pub mod ImageLaws
+pub mod PieceLaws
+pub mod StoredLaws

@@ -1,0 +1,15 @@
+//! A store of series, and its bytes.
+#![tactic(auto)]
+
+mod header;
+mod laws;
+mod reading;
+mod store;
+#[cfg(test)]
+mod tests;
+mod trees;
+
+pub use header::{Entry, Fixed};
+pub use laws::{headers_keep, images_differ};
+pub use reading::{entry_len, read_entry, read_fixed};
+pub use store::{Store, Stored};

@@ -1,0 +1,27 @@
+use super::*;
+use std::test::Fail;
+
+#[test]
+fn writes_an_empty_store(rt: HostRuntime) -> Result<(), Fail> {
+    let Ok(store) = Store::new(rt.alloc(), 2, 0, 4) else {
+        return Err(Fail::from("a store"))
+    };
+    let Ok(bytes) = store.encode() else {
+        return Err(Fail::from("its bytes"))
+    };
+    assert_eq!(rt; bytes.as_slice(), [80, 76, 65, 84, 1, 2, 0, 0].as_slice());
+    let Ok(header) = store.header() else {
+        return Err(Fail::from("its header"))
+    };
+    assert_eq!(rt; header.as_slice(), bytes.as_slice());
+    Ok(())
+}
+
+#[test]
+fn reads_the_parts_of_a_header(rt: HostRuntime) -> Result<(), Fail> {
+    assert_eq!(rt; read_fixed(&[80, 76, 65, 84, 1, 7, 3, 0]).err(), Some(5));
+    assert_eq!(rt; (entry_len(1, 0), entry_len(1, 1)), (None, Some(6)));
+    assert!(rt; read_entry(1, &[1, 120, 0, 16, 0, 0]).is_some());
+    assert!(rt; read_entry(1, &[1, 49, 0, 0, 0, 1]).is_none());
+    Ok(())
+}

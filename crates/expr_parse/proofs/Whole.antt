@@ -1,5 +1,5 @@
 -- All tokens, or not all; and what that means for a text.
-use Rattle.std.proofs.Common.{◌≡◌, ℕ, ◌<◌, ◌≤◌, false, List, [], ◌∷◌, ◌∙◌, ◌⊎◌, inl, inr, length, map, ap, sym, subst, refl}
+use Rattle.std.proofs.Common.{◌≡◌, ◌↔◌, ℕ, ◌<◌, ◌≤◌, false, List, [], ◌∷◌, ◌∙◌, ◌⊎◌, inl, inr, length, map, ap, sym, subst, refl}
 use Rattle.std.specs.Prelude.{None, Some, Ok, Err}
 use Rattle.semantics.specs.Limits.{most_names, query_depth, sums_in, IsWithinLimits}
 use Rattle.semantics.specs.Term.{QueryTerm}
@@ -16,6 +16,7 @@ use Rattle.expr_parse.specs.Small.{AreSmall}
 use Rattle.expr_parse.specs.Stuck.{IsOutside}
 use Rattle.expr_parse.specs.Tokens.{tokenized}
 use Rattle.expr_parse.proofs.Bounds.{query_has_few, query_has_small, query_near}
+use Rattle.expr_parse.proofs.Spelled.{in_grammar}
 use Rattle.expr_parse.proofs.Stuck.{query_closed}
 use Rattle.expr_parse.proofs.Unique.{one_tree, tree_read}
 
@@ -28,6 +29,9 @@ tree_at ts rest q a e = tree_read ts q (rw e at a)
 
 pub passed_at : (ts rest : List Lexeme) (q : QueryTerm) → IsQuery ts rest q → rest ≡ [] → sticks (query ∷ []) ts ≡ None
 passed_at ts rest q a e = query_closed (rw e at a) refl []
+
+pub sticks_outside_alone : (ts : List Lexeme) → (sticks (query ∷ []) ts ≡ None) ↔ ((q : QueryTerm) × IsQuery ts [] q)
+sticks_outside_alone ts = (λ h. in_grammar ts h, λ a. query_closed a.1 refl [])
 
 -- ---- texts
 

@@ -90,11 +90,7 @@ fn write_range(alloc: Global, into: &mut Vec<u8>, bounds: Bounds) -> Result<(), 
     Ok(())
 }
 
-fn write_ends(
-    alloc: Global,
-    into: &mut Vec<u8>,
-    bounds: Option<Bounds>,
-) -> Result<(), Memory>
+fn write_ends(alloc: Global, into: &mut Vec<u8>, bounds: Option<Bounds>) -> Result<(), Memory>
     ensures { OnOk result (into.new.items ≡ into.old.items ++ ends_text (option_map range_of bounds)) }
 {
     match bounds {
@@ -109,12 +105,7 @@ fn write_ends(
     }
 }
 
-fn write_constant(
-    alloc: Global,
-    into: &mut Vec<u8>,
-    v: i128,
-    bounds: Bounds,
-) -> Result<(), Memory>
+fn write_constant(alloc: Global, into: &mut Vec<u8>, v: i128, bounds: Bounds) -> Result<(), Memory>
     ensures { OnOk result (into.new.items ≡ into.old.items ++ series_text Level.OfSum (constant v bounds.l bounds.r)) }
 {
     put(into, "const(")?;
@@ -124,12 +115,7 @@ fn write_constant(
 }
 
 /// Appends the text of a series that stands in an operator of this level.
-fn write_series(
-    alloc: Global,
-    into: &mut Vec<u8>,
-    level: Level,
-    t: &Series,
-) -> Result<(), Memory>
+fn write_series(alloc: Global, into: &mut Vec<u8>, level: Level, t: &Series) -> Result<(), Memory>
     ensures { OnOk result (into.new.items ≡ into.old.items ++ series_text level (term_of t.now)) }
 {
     match t {
@@ -217,12 +203,7 @@ fn write_covariance(
 }
 
 /// Appends the text of a query that stands in an operator of this level.
-fn write_query(
-    alloc: Global,
-    into: &mut Vec<u8>,
-    level: Level,
-    q: &Query,
-) -> Result<(), Memory>
+fn write_query(alloc: Global, into: &mut Vec<u8>, level: Level, q: &Query) -> Result<(), Memory>
     ensures { OnOk result (into.new.items ≡ into.old.items ++ query_text level (query_term_of q.now)) }
 {
     match q {

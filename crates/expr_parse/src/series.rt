@@ -51,7 +51,11 @@ const MOST: u64 = 1 << 40;
 fn narrow(v: i128) -> Option<i64>
     ensures { MatchOption result (2 ^ 40 < unsigned_abs v) (λ k. (k ≡ v) × (unsigned_abs v ≤ 2 ^ 40)) }
 {
-    if v.unsigned_abs() <= u128::from(MOST) { Some(v as i64) } else { None }
+    if v.unsigned_abs() <= u128::from(MOST) {
+        Some(v as i64)
+    } else {
+        None
+    }
 }
 
 /// A whole number of magnitude at most 2^40.
@@ -129,14 +133,7 @@ fn read_constant(ts: &[Lexeme]) -> Result<(Series, &[Lexeme]), Stop>
     let first = open(ts)?;
     let (v, mid) = read_whole(first)?;
     let (b, rest) = read_range(mid)?;
-    Ok((
-        Series::Const {
-            v,
-            a: b.l,
-            b: b.r,
-        },
-        rest,
-    ))
+    Ok((Series::Const { v, a: b.l, b: b.r }, rest))
 }
 
 fn boxed(alloc: Global, t: Series) -> Result<Box<Series>, Stop>
@@ -186,7 +183,10 @@ fn shift_of(alloc: Global, u: Series, k: i64) -> Result<Series, Stop>
 
 /// A series, as far as it goes.
 #[cycle(series)]
-pub(crate) fn read_series<'a>(alloc: Global, ts: &'a [Lexeme]) -> Result<(Series, &'a [Lexeme]), Stop>
+pub(crate) fn read_series<'a>(
+    alloc: Global,
+    ts: &'a [Lexeme],
+) -> Result<(Series, &'a [Lexeme]), Stop>
     ensures found { IfOk result (λ r. IsSeries ts.now r.1.now (term_of r.0)) }
     ensures ended { IfOk result (λ r. continues r.1.now ≡ false) }
     ensures shorter { IfOk result (λ r. length r.1.now < length ts.now) }

@@ -1,4 +1,5 @@
 use crate::{Kind, ParseErr, Token, parse, print, tokens};
+use std::test::Fail;
 
 #[test]
 fn spans(rt: HostRuntime) -> Result<(), Fail> {
@@ -39,12 +40,30 @@ fn refusals(rt: HostRuntime) -> Result<(), Fail> {
         ("170141183460469231731687303715884105728", ParseErr::At(0)),
         ("sum(x,0,1099511627777)", ParseErr::At(8)),
         ("sum(shift(x,-1099511627777))", ParseErr::At(13)),
-        ("(((((((((((((((((((((((((((((((((((((((((((((((((((((((((((((((((1)))))))))))))))))))))))))))))))))))))))))))))))))))))))))))))))))", ParseErr::TooDeep),
-        ("1+1+1+1+1+1+1+1+1+1+1+1+1+1+1+1+1+1+1+1+1+1+1+1+1+1+1+1+1+1+1+1+1+1+1+1+1+1+1+1+1+1+1+1+1+1+1+1+1+1+1+1+1+1+1+1+1+1+1+1+1+1+1+1+1", ParseErr::TooDeep),
-        ("sum(x)+sum(x)+sum(x)+sum(x)+sum(x)+sum(x)+sum(x)+sum(x)+sum(x)+sum(x)+sum(x)+sum(x)+sum(x)+sum(x)+sum(x)+sum(x)+sum(x)", ParseErr::TooManySums),
-        ("varnum(x,0,9)+varnum(x,0,9)+varnum(x,0,9)+varnum(x,0,9)+varnum(x,0,9)+sum(x)+sum(x)", ParseErr::TooManySums),
-        ("sum(x+x+x+x+x+x+x+x+x+x+x+x+x+x+x+x+x+x+x+x+x+x+x+x+x+x+x+x+x+x+x+x+x)", ParseErr::TooManyNames),
-        ("varnum(x+x+x+x+x+x+x+x+x+x+x+x+x+x+x+x+x,0,9)", ParseErr::TooManyNames),
+        (
+            "(((((((((((((((((((((((((((((((((((((((((((((((((((((((((((((((((1)))))))))))))))))))))))))))))))))))))))))))))))))))))))))))))))))",
+            ParseErr::TooDeep,
+        ),
+        (
+            "1+1+1+1+1+1+1+1+1+1+1+1+1+1+1+1+1+1+1+1+1+1+1+1+1+1+1+1+1+1+1+1+1+1+1+1+1+1+1+1+1+1+1+1+1+1+1+1+1+1+1+1+1+1+1+1+1+1+1+1+1+1+1+1+1",
+            ParseErr::TooDeep,
+        ),
+        (
+            "sum(x)+sum(x)+sum(x)+sum(x)+sum(x)+sum(x)+sum(x)+sum(x)+sum(x)+sum(x)+sum(x)+sum(x)+sum(x)+sum(x)+sum(x)+sum(x)+sum(x)",
+            ParseErr::TooManySums,
+        ),
+        (
+            "varnum(x,0,9)+varnum(x,0,9)+varnum(x,0,9)+varnum(x,0,9)+varnum(x,0,9)+sum(x)+sum(x)",
+            ParseErr::TooManySums,
+        ),
+        (
+            "sum(x+x+x+x+x+x+x+x+x+x+x+x+x+x+x+x+x+x+x+x+x+x+x+x+x+x+x+x+x+x+x+x+x)",
+            ParseErr::TooManyNames,
+        ),
+        (
+            "varnum(x+x+x+x+x+x+x+x+x+x+x+x+x+x+x+x+x,0,9)",
+            ParseErr::TooManyNames,
+        ),
     ] {
         assert!(rt; parse(alloc, text.as_bytes()).err() == Some(want), "{text}");
     }
@@ -62,15 +81,42 @@ fn printed(rt: HostRuntime) -> Result<(), Fail> {
         ("2*(3*4)", "2*(3*4)"),
         ("1+2*-3", "1+2*-3"),
         ("\t007 -\t-0 ", "7-0"),
-        ("170141183460469231731687303715884105727", "170141183460469231731687303715884105727"),
-        ("-170141183460469231731687303715884105727", "-170141183460469231731687303715884105727"),
-        ("sum(aaaaaaaaaaaaaaaaaaaaaaaaaaaaaaaa)", "sum(aaaaaaaaaaaaaaaaaaaaaaaaaaaaaaaa)"),
-        ("((((((((((((((((((((((((((((((((((((((((((((((((((((((((((((((((1))))))))))))))))))))))))))))))))))))))))))))))))))))))))))))))))", "1"),
-        ("1+1+1+1+1+1+1+1+1+1+1+1+1+1+1+1+1+1+1+1+1+1+1+1+1+1+1+1+1+1+1+1+1+1+1+1+1+1+1+1+1+1+1+1+1+1+1+1+1+1+1+1+1+1+1+1+1+1+1+1+1+1+1+1", "1+1+1+1+1+1+1+1+1+1+1+1+1+1+1+1+1+1+1+1+1+1+1+1+1+1+1+1+1+1+1+1+1+1+1+1+1+1+1+1+1+1+1+1+1+1+1+1+1+1+1+1+1+1+1+1+1+1+1+1+1+1+1+1"),
-        ("sum(x)+sum(x)+sum(x)+sum(x)+sum(x)+sum(x)+sum(x)+sum(x)+sum(x)+sum(x)+sum(x)+sum(x)+sum(x)+sum(x)+sum(x)+sum(x)", "sum(x)+sum(x)+sum(x)+sum(x)+sum(x)+sum(x)+sum(x)+sum(x)+sum(x)+sum(x)+sum(x)+sum(x)+sum(x)+sum(x)+sum(x)+sum(x)"),
-        ("sum(shift(x*y-(2+-3),-4),0,-1)", "sum(shift(x*y-(2+-3),-4),0,-1)"),
-        ("varnum(x - const(-1, 0, 2)*y, 0, 9)", "varnum(x-const(-1,0,2)*y,0,9)"),
-        ("covnum((x), 1*(y+z), 0, 1099511627776)", "covnum(x,1*(y+z),0,1099511627776)"),
+        (
+            "170141183460469231731687303715884105727",
+            "170141183460469231731687303715884105727",
+        ),
+        (
+            "-170141183460469231731687303715884105727",
+            "-170141183460469231731687303715884105727",
+        ),
+        (
+            "sum(aaaaaaaaaaaaaaaaaaaaaaaaaaaaaaaa)",
+            "sum(aaaaaaaaaaaaaaaaaaaaaaaaaaaaaaaa)",
+        ),
+        (
+            "((((((((((((((((((((((((((((((((((((((((((((((((((((((((((((((((1))))))))))))))))))))))))))))))))))))))))))))))))))))))))))))))))",
+            "1",
+        ),
+        (
+            "1+1+1+1+1+1+1+1+1+1+1+1+1+1+1+1+1+1+1+1+1+1+1+1+1+1+1+1+1+1+1+1+1+1+1+1+1+1+1+1+1+1+1+1+1+1+1+1+1+1+1+1+1+1+1+1+1+1+1+1+1+1+1+1",
+            "1+1+1+1+1+1+1+1+1+1+1+1+1+1+1+1+1+1+1+1+1+1+1+1+1+1+1+1+1+1+1+1+1+1+1+1+1+1+1+1+1+1+1+1+1+1+1+1+1+1+1+1+1+1+1+1+1+1+1+1+1+1+1+1",
+        ),
+        (
+            "sum(x)+sum(x)+sum(x)+sum(x)+sum(x)+sum(x)+sum(x)+sum(x)+sum(x)+sum(x)+sum(x)+sum(x)+sum(x)+sum(x)+sum(x)+sum(x)",
+            "sum(x)+sum(x)+sum(x)+sum(x)+sum(x)+sum(x)+sum(x)+sum(x)+sum(x)+sum(x)+sum(x)+sum(x)+sum(x)+sum(x)+sum(x)+sum(x)",
+        ),
+        (
+            "sum(shift(x*y-(2+-3),-4),0,-1)",
+            "sum(shift(x*y-(2+-3),-4),0,-1)",
+        ),
+        (
+            "varnum(x - const(-1, 0, 2)*y, 0, 9)",
+            "varnum(x-const(-1,0,2)*y,0,9)",
+        ),
+        (
+            "covnum((x), 1*(y+z), 0, 1099511627776)",
+            "covnum(x,1*(y+z),0,1099511627776)",
+        ),
     ] {
         let q = parse(alloc, text.as_bytes()).map_err(|_| "a query")?;
         let printed = print(alloc, &q).map_err(|_| "memory")?;

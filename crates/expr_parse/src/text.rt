@@ -1,6 +1,6 @@
 // The query of a text.
 
-ghost use Rattle.std.specs.Prelude.{◌≡◌, ◌≤◌, ◌⊎◌, ℕ, Err, IfErr, IfOk, List, MatchOption, None, Ok, Some, [], ◌∷◌, length, map};
+ghost use Rattle.std.specs.Prelude.{◌≡◌, ◌↔◌, ◌≤◌, ◌⊎◌, ℕ, Err, IfErr, IfOk, List, MatchOption, None, Ok, Some, [], ◌∷◌, length, map};
 ghost use Rattle.semantics.specs.Limits.{IsWithinLimits};
 ghost use Rattle.semantics.specs.Term.{QueryTerm};
 ghost use Rattle.expr.specs.Terms.{query_term_of};
@@ -28,6 +28,9 @@ fn read_all(alloc: Global, ts: &[Lexeme]) -> Result<Query, Stop>
     ensures tree { IfOk result (λ q. tree_of ts.now ≡ Some (query_term_of q)) }
     ensures passes { IfOk result (λ q. sticks (query ∷ []) ts.now ≡ None) }
     ensures stuck { IfErr result (λ e. IsStuckAt (query ∷ []) ts.now e) }
+
+    // The list sticks exactly where the grammar has no query.
+    ensures exact { (sticks (query ∷ []) ts.now ≡ None) ↔ ((q : QueryTerm) × IsQuery ts.now [] q) }
 {
     let (q, rest) = read_query(alloc, ts)?;
     match next(rest) {

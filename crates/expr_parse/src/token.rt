@@ -46,12 +46,7 @@ fn is_word_byte(byte: u8) -> bool
 fn is_sign(byte: u8) -> bool
     ensures { result ≡ is_sign byte }
 {
-    byte == b'('
-        || byte == b')'
-        || byte == b','
-        || byte == b'+'
-        || byte == b'-'
-        || byte == b'*'
+    byte == b'(' || byte == b')' || byte == b',' || byte == b'+' || byte == b'-' || byte == b'*'
 }
 
 #[tactic(auto, using(crate::proofs::Scanned::word_within))]
@@ -89,7 +84,11 @@ fn front(text: &[u8]) -> Option<(Kind, usize)>
             None
         };
     }
-    if is_sign(first) { Some((Kind::Sign, 1)) } else { None }
+    if is_sign(first) {
+        Some((Kind::Sign, 1))
+    } else {
+        None
+    }
 }
 
 /// What a token with these bytes says.

@@ -1,6 +1,6 @@
 -- What the grammar reads is within limits: places are near, numbers are small, and nodes are no more than tokens.
-use Rattle.std.proofs.Common.{◌≡◌, ◌≤◌, ◌<◌, ◌+◌, ◌^◌, ℕ, suc, ℤ, pos, Bool, true, false, cond, List, [], ◌∷◌, length, map, refl, ap, arith}
-use Rattle.std.specs.Prelude.{Option, Some, None, codes, neg_ℤ, unsigned_abs}
+use Rattle.std.proofs.Common.{◌≡◌, ◌≤◌, ◌<◌, ◌+◌, ◌^◌, ℕ, suc, ℤ, Bool, true, false, cond, List, [], ◌∷◌, length, map, refl, ap, arith}
+use Rattle.std.specs.Prelude.{Option, Some, None, codes, unsigned_abs}
 use Rattle.std.specs.Str.{bytes_eq}
 use Rattle.semantics.specs.Limits.{nodes_in, HasSmallConstants, HasSmallNumbers, IsNearQuery, IsNearRange, IsNearSeries, IsSmall}
 use Rattle.semantics.specs.Names.{is_name}

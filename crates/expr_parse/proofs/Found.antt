@@ -1,10 +1,10 @@
 -- The rules of the grammar, by equations.
-use Rattle.std.proofs.Common.{◌≡◌, ℕ, ◌≤◌, ◌^◌, ℤ, pos, unsigned_abs, List, ◌∷◌, sym, subst}
+use Rattle.std.proofs.Common.{◌≡◌, ℕ, ◌≤◌, ◌^◌, ℤ, pos, unsigned_abs, List, ◌∷◌}
 use Rattle.std.specs.Prelude.{neg_ℤ}
 use Rattle.expr_parse.specs.declared.lexeme.Lexeme.{Lexeme}
 use Rattle.semantics.specs.Term.{Term, Range, base, constant, bare, plus, minus, times, shift}
 use Rattle.expr_parse.specs.declared.lexeme.Lexeme.TheVariants.{Number, Named, Minus, Open, Close, Comma, Const, Shift, Plus, Times}
-use Rattle.expr_parse.specs.SeriesGrammar.{IsWhole, IsPlace, IsRange, IsSeries, IsProduct, IsFactor, plus_product, minus_product, times_factor, product, factor, positive, negative, const, shifted, name, grouped, whole}
+use Rattle.expr_parse.specs.SeriesGrammar.{IsWhole, IsPlace, IsRange, IsSeries, IsProduct, IsFactor, plus_product, minus_product, times_factor, positive, negative, const, shifted, name, grouped, whole}
 
 pub positive_at : (ts rest : List Lexeme) (v : ℤ) (n : ℕ) → ts ≡ Number n ∷ rest → v ≡ pos n → IsWhole ts rest v
 positive_at ts rest v n e f = rw (e, f) positive

@@ -1,13 +1,13 @@
 -- What the grammar reads is what the pending list takes for the same entry.
-use Rattle.std.proofs.Common.{◌≡◌, ℕ, ◌≤◌, ◌^◌, ℤ, pos, negsuc, List, ◌∷◌, ◌∙◌, ap, refl, true, false, cond, nat_le, le-leb, arith}
-use Rattle.std.specs.Prelude.{Some, None, suc, zero, neg_ℤ, unsigned_abs, length}
+use Rattle.std.proofs.Common.{◌≡◌, ℕ, ◌≤◌, ◌^◌, ℤ, pos, List, ◌∷◌, ◌∙◌, refl, le-leb}
+use Rattle.std.specs.Prelude.{suc, zero, neg_ℤ, unsigned_abs}
 use Rattle.semantics.specs.Term.{Term, Range, QueryTerm}
 use Rattle.expr_parse.specs.declared.lexeme.Lexeme.{Lexeme}
-use Rattle.expr_parse.specs.declared.lexeme.Lexeme.TheVariants.{Number, Named, Sum, VarNum, CovNum, Const, Shift, Open, Close, Comma, Plus, Minus, Times}
+use Rattle.expr_parse.specs.declared.lexeme.Lexeme.TheVariants.{Number}
 use Rattle.expr_parse.specs.SeriesGrammar as s
 use Rattle.expr_parse.specs.SeriesGrammar.{IsWhole, IsPlace, IsRange, positive, negative, range}
 use Rattle.expr_parse.specs.QueryGrammar as q
-use Rattle.expr_parse.specs.Pending.{Entry, sticks, taken, query, more_query, series, more_series, ends, whole, place, number, near, comma_sign, close_sign, minus_sign, open_sign}
+use Rattle.expr_parse.specs.Pending.{Entry, sticks, query, more_query, series, more_series, ends, whole, place, near, comma_sign, close_sign}
 
 pub whole_passes : {ts rest : List Lexeme} {v : ℤ} → IsWhole ts rest v → (es : List Entry) → sticks (whole ∷ es) ts ≡ sticks es rest
 whole_passes positive es = refl

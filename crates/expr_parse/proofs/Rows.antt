@@ -1,7 +1,7 @@
 -- Some texts, by the definitions alone.
-use Rattle.std.proofs.Common.{◌≡◌, ℕ, pos, refl}
-use Rattle.std.specs.Prelude.{codes, Ok, Err, Some, None}
-use Rattle.semantics.specs.Term.{number, sum, sub, mul, base, shift, Range}
+use Rattle.std.proofs.Common.{◌≡◌, pos, refl}
+use Rattle.std.specs.Prelude.{codes, Ok, Err, Some}
+use Rattle.semantics.specs.Term.{number, sum, sub, mul, base}
 use Rattle.expr_parse.specs.declared.error.ParseErr.TheVariants as refusal
 use Rattle.expr_parse.specs.Tokens.{tokens_of, front}
 use Rattle.expr_parse.specs.Reading.{tree_of}

@@ -1,6 +1,6 @@
 -- Scanning a text.
-use Rattle.std.proofs.Common.{◌≡◌, ℕ, ℤ, unsigned_abs, leb, ◌+◌, ◌-◌, ◌*◌, ◌<◌, ◌≤◌, ◌^◌, Bool, true, false, cond, List, [], ◌∷◌, ◌++◌, min, drop, length, refl, sym, ap, ◌∙◌, arith, append_assoc, add-zero}
-use Rattle.std.specs.Prelude.{◌&&◌, suc, zero, Option, Some, None, Result, Ok, Err}
+use Rattle.std.proofs.Common.{◌≡◌, ℕ, ℤ, unsigned_abs, leb, ◌+◌, ◌-◌, ◌<◌, ◌≤◌, ◌^◌, Bool, true, false, cond, List, [], ◌∷◌, ◌++◌, drop, length, refl, sym, ap, ◌∙◌, arith, append_assoc, add-zero}
+use Rattle.std.specs.Prelude.{◌&&◌, suc, zero, Some, None, Result, Ok, Err}
 use Rattle.std.proofs.Common.{map, take, zero-add}
 use Rattle.expr_parse.specs.declared.lexeme.Lexeme.{Lexeme}
 use Rattle.expr_parse.specs.Lexemes.{lexeme_of, lexeme_of_bytes}
@@ -9,7 +9,7 @@ use Rattle.expr_parse.specs.declared.token.Token.{Token}
 use Rattle.expr_parse.specs.Tokens.{front, at_front, before, tokens_from, tokens_of, AreInOrder}
 use Rattle.num_text.specs.Cells.{is_blank}
 use Rattle.semantics.specs.Names.{is_word_byte}
-use Rattle.semantics.specs.Numbers.{are_digits, has_minus, is_number, most_magnitude, number_in, number_of, with_sign, without_minus}
+use Rattle.semantics.specs.Numbers.{are_digits, has_minus, most_magnitude, number_in, number_of, with_sign, without_minus}
 use Rattle.std.specs.Char.{is_ascii_digit}
 use Rattle.std.specs.List.{prefix_len}
 use Rattle.std.proofs.lemmas.Bool.Decides.{nat_tests}

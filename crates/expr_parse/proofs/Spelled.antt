@@ -1,7 +1,7 @@
 -- Where the pending list doesn't stick, the tokens are in the grammar.
 use Rattle.std.proofs.Common.{◌≡◌, ℕ, ◌≤◌, ◌^◌, ◌⊎◌, inl, inr, ℤ, pos, Bool, true, false, cond, List, [], ◌∷◌, ◌∙◌, ap, sym, refl, length, nat_le, subst, arith}
 use Rattle.std.proofs.lemmas.Grind.{common_steps}
-use Rattle.std.specs.Prelude.{Option, Some, None, suc, neg_ℤ, unsigned_abs}
+use Rattle.std.specs.Prelude.{Option, Some, None, suc, neg_ℤ}
 use Rattle.semantics.specs.Term.{Term, Range, QueryTerm}
 use Rattle.semantics.specs.Term as t
 use Rattle.expr_parse.specs.declared.lexeme.Lexeme.{Lexeme}
@@ -9,7 +9,7 @@ use Rattle.expr_parse.specs.declared.lexeme.Lexeme.TheVariants.{Number, Named, S
 use Rattle.expr_parse.specs.SeriesGrammar as s
 use Rattle.expr_parse.specs.SeriesGrammar.{IsWhole, IsPlace, IsRange, positive, negative, range}
 use Rattle.expr_parse.specs.QueryGrammar as q
-use Rattle.expr_parse.specs.Pending.{Entry, row, takes, after, sticks, query, more_query, series, more_series, ends, whole, place, number, near, name, sum, varnum, covnum, const, shift, open_sign, close_sign, comma_sign, plus_sign, minus_sign, times_sign}
+use Rattle.expr_parse.specs.Pending.{Entry, after, sticks, query, more_query, series, more_series, ends, whole, place, number, near, name, sum, varnum, covnum, const, shift, open_sign, close_sign, comma_sign, plus_sign, minus_sign, times_sign}
 use Rattle.expr_parse.proofs.Passes.{abs_of_negative}
 
 -- what is read of one kind of chain up to some tokens: a product, or a sum, a sign and a product

@@ -1,7 +1,7 @@
 -- Where a part sticks, the whole sticks.
-use Rattle.std.proofs.Common.{◌≡◌, ℤ, Bool, true, false, List, [], ◌∷◌, ◌++◌, ◌∙◌, refl}
+use Rattle.std.proofs.Common.{◌≡◌, ℤ, true, false, List, [], ◌∷◌, ◌++◌, ◌∙◌, refl}
 use Rattle.expr_parse.specs.declared.lexeme.Lexeme.{Lexeme}
-use Rattle.expr_parse.specs.declared.lexeme.Lexeme.TheVariants.{Number, Named, Sum, VarNum, CovNum, Const, Shift, Open, Close, Comma, Plus, Minus, Times}
+use Rattle.expr_parse.specs.declared.lexeme.Lexeme.TheVariants.{Open, Close, Comma, Plus, Minus, Times}
 use Rattle.expr_parse.specs.declared.series.Stop.{Stop}
 use Rattle.expr_parse.specs.declared.series.Stop.TheVariants.{Stuck, Memory}
 use Rattle.expr_parse.specs.Pending.{Entry, sticks, continues, has_comma, ends, query, more_query, series, more_series, whole, place, open_sign, comma_sign, close_sign}
@@ -9,7 +9,7 @@ use Rattle.expr_parse.specs.Stuck.{IsStuck}
 use Rattle.semantics.specs.Term.{Term, Range, QueryTerm}
 use Rattle.expr_parse.specs.SeriesGrammar.{IsPlace, IsRange, IsSeries, IsProduct, range}
 use Rattle.expr_parse.specs.QueryGrammar as q
-use Rattle.expr_parse.proofs.Passes.{query_passes, term_passes, whole_passes, place_passes, series_passes, product_passes}
+use Rattle.expr_parse.proofs.Passes.{query_passes, term_passes, place_passes, series_passes, product_passes}
 
 -- Where the entries come to others at some tokens left, and reading stops there, it stops so from the start.
 pub stuck_behind : (entries others behind : List Entry) (ts rest : List Lexeme) → ((es : List Entry) → sticks (entries ++ es) ts ≡ sticks (others ++ (behind ++ es)) rest) → (e : Stop) → IsStuck others rest e → IsStuck entries ts e

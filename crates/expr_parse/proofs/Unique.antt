@@ -4,13 +4,13 @@ use Rattle.std.specs.Prelude.{Option, Some, None, option_map, neg_ℤ, unsigned_
 use Rattle.semantics.specs.Term as t
 use Rattle.semantics.specs.Term.{Term, Range, QueryTerm}
 use Rattle.expr_parse.specs.declared.lexeme.Lexeme.{Lexeme}
-use Rattle.expr_parse.specs.declared.lexeme.Lexeme.TheVariants.{Number, Named, Sum, VarNum, CovNum, Const, Shift, Open, Close, Comma, Plus, Minus, Times}
+use Rattle.expr_parse.specs.declared.lexeme.Lexeme.TheVariants.{Number, Sum, VarNum, CovNum, Const, Shift, Open, Close, Comma, Plus, Minus, Times}
 use Rattle.expr_parse.specs.SeriesGrammar as s
 use Rattle.expr_parse.specs.SeriesGrammar.{IsWhole, IsPlace, IsRange, positive, negative, range}
 use Rattle.expr_parse.specs.QueryGrammar as q
-use Rattle.expr_parse.specs.Pending.{Entry, query, more_query, series, more_series, ends, whole, place, number, near, open_sign, close_sign, comma_sign}
+use Rattle.expr_parse.specs.Pending.{Entry, query, more_query, series, more_series, ends, whole, place, near, close_sign, comma_sign}
 use Rattle.expr_parse.proofs.Passes.{abs_of_negative}
-use Rattle.expr_parse.specs.Reading.{More, end, plus, minus, times, query_chain, series_chain, query_tree, series_tree, Parts, read, range_from, tree_of}
+use Rattle.expr_parse.specs.Reading.{More, end, plus, minus, times, query_chain, series_chain, query_tree, series_tree, read, range_from, tree_of}
 
 -- operators behind others
 abbrev pub join : {T : Type 0} → More T → More T → More T

@@ -1,5 +1,5 @@
 -- All tokens, or not all; and what that means for a text.
-use Rattle.std.proofs.Common.{◌≡◌, ◌↔◌, ℕ, ◌<◌, ◌≤◌, false, List, [], ◌∷◌, ◌∙◌, ◌⊎◌, inl, inr, length, map, ap, sym, subst, refl}
+use Rattle.std.proofs.Common.{◌≡◌, ◌↔◌, ℕ, ◌≤◌, false, List, [], ◌∷◌, ◌∙◌, ◌⊎◌, inl, inr, length, map, sym, subst, refl}
 use Rattle.std.specs.Prelude.{None, Some, Ok, Err}
 use Rattle.semantics.specs.Limits.{most_names, query_depth, sums_in, IsWithinLimits}
 use Rattle.semantics.specs.Term.{QueryTerm}

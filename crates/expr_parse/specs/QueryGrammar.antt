@@ -1,5 +1,5 @@
 -- The grammar of a query. `IsQuery ts rest q`: from the tokens ts a query is read that leaves the tokens rest, and its term is q.
-use Rattle.std.specs.Prelude.{ℤ, List, ◌∷◌, Option, Some, None}
+use Rattle.std.specs.Prelude.{ℤ, List, ◌∷◌, Some, None}
 use Rattle.semantics.specs.Term.{Term, Range, QueryTerm, number, sum, variance, covariance, add, sub, mul}
 use Rattle.expr_parse.specs.declared.lexeme.Lexeme.{Lexeme}
 use Rattle.expr_parse.specs.declared.lexeme.Lexeme.TheVariants.{Sum, VarNum, CovNum, Open, Close, Comma, Plus, Minus, Times}

@@ -1,10 +1,10 @@
 -- The tree of a list of tokens, read as the pending list goes, with what each entry came to.
-use Rattle.std.specs.Prelude.{ℕ, ◌≤◌, ◌^◌, ℤ, pos, neg_ℤ, List, [], ◌∷◌, Option, Some, None, option_map, nat_le, if◌then◌else◌}
+use Rattle.std.specs.Prelude.{ℕ, ◌^◌, ℤ, pos, neg_ℤ, List, [], ◌∷◌, Option, Some, None, option_map, nat_le, if◌then◌else◌}
 use Rattle.semantics.specs.Term as t
 use Rattle.semantics.specs.Term.{Term, Range, QueryTerm}
 use Rattle.expr_parse.specs.declared.lexeme.Lexeme.{Lexeme}
 use Rattle.expr_parse.specs.declared.lexeme.Lexeme.TheVariants.{Number, Named, Sum, VarNum, CovNum, Const, Shift, Open, Close, Comma, Plus, Minus, Times}
-use Rattle.expr_parse.specs.Pending.{Entry, query, more_query, series, more_series, ends, whole, place, number, near, name, sum, varnum, covnum, const, shift, open_sign, close_sign, comma_sign, plus_sign, minus_sign, times_sign}
+use Rattle.expr_parse.specs.Pending.{Entry, query, more_query, series, more_series, ends, whole, place, number, near, name, open_sign, close_sign, comma_sign}
 
 -- the operators behind a factor, each with its factor
 pub data More (T : Type 0) : Type 0 where

@@ -1,4 +1,4 @@
-use Rattle.std.proofs.Common.{rules, ◌≡◌, ◌+◌, arith, length, ap, sym, ◌∙◌, refl, false, true, map}
+use Rattle.std.proofs.Common.{◌≡◌, ◌+◌, arith, length, ap, sym, ◌∙◌, refl, false, true, map}
 use Rattle.expr_parse.specs.Lexemes.{lexeme_of}
 use Rattle.std.specs.Prelude.{Some}
 use Rattle.num_text.specs.Cells.{is_blank}

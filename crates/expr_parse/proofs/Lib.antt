@@ -1,0 +1,11 @@
+pub mod Appended
+pub mod Bounds
+pub mod Found
+pub mod FoundQuery
+pub mod Passes
+pub mod Rows
+pub mod Scanned
+pub mod Spelled
+pub mod Stuck
+pub mod Unique
+pub mod Whole

@@ -1,0 +1,10 @@
+use Rattle.expr_parse.proofs.Whole.{none_where_stuck, within_limits}
+use Rattle.expr_parse.proofs.text.by_lexemes.Goals as goal
+
+pub returns-in_ok-q-in-Ok-clause-limits : goal.returns-in_ok-q-in-Ok-clause-limits
+returns-in_ok-q-in-Ok-clause-limits c =
+    let ensured = c.in_ok-q-in-Ok.ensures in
+    rw ensured.same (within_limits c.args.said.now _ c.in-Ok.ensures.found c.requires.few c.requires.small ensured.depth ensured.sums ensured.names)
+
+pub returns-in-Err-Stuck-clause-outside : goal.returns-in-Err-Stuck-clause-outside
+returns-in-Err-Stuck-clause-outside c = none_where_stuck c.args.said.now _ (rw c.in-Err-Stuck.field-0-is at c.in-Err-Stuck.ensures.stuck)

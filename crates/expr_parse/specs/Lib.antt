@@ -1,0 +1,12 @@
+pub mod Canonical
+pub mod Lexemes
+pub mod Magnitudes
+pub mod Nesting
+pub mod Parsed
+pub mod Pending
+pub mod QueryGrammar
+pub mod Reading
+pub mod SeriesGrammar
+pub mod Small
+pub mod Stuck
+pub mod Tokens

@@ -1,0 +1,127 @@
+// The limits of a query.
+
+ghost use Rattle.std.specs.Prelude.{◌≡◌, ◌≤◌, IfErr, IfOk, List, Err, Ok, min, length};
+ghost use Rattle.semantics.specs.Limits.{most_names, query_depth, series_depth, sums_in};
+ghost use Rattle.semantics.specs.Measures.{names_in};
+ghost use Rattle.expr.specs.Terms.{query_term_of, term_of};
+ghost use Rattle.expr_parse.specs.Nesting.{is_nested};
+ghost use Rattle.expr_parse.specs.Parsed.{limited};
+
+use crate::error::ParseErr;
+use crate::lexeme::Lexeme;
+use crate::series::next;
+use expr::{Query, Series};
+
+/// The depth of a series, or 65 where it is greater.
+fn series_depth(t: &Series) -> u32
+    ensures { result ≡ min (series_depth (term_of t.now)) 65 }
+{
+    match t {
+        Series::Base(_) | Series::Const { .. } | Series::Bare(_) => 1,
+        Series::Plus(u, v) | Series::Minus(u, v) | Series::Times(u, v) => {
+            (1 + series_depth(u).max(series_depth(v))).min(65)
+        }
+        Series::Shift(u, _) => (1 + series_depth(u)).min(65),
+    }
+}
+
+fn query_depth(q: &Query) -> u32
+    ensures { result ≡ min (query_depth (query_term_of q.now)) 65 }
+{
+    match q {
+        Query::Number(_) => 1,
+        Query::Sum(t, _) => (1 + series_depth(t)).min(65),
+        Query::Var(t, _) => (4 + series_depth(t)).min(65),
+        Query::Cov(t, u, _) => (4 + series_depth(t).max(series_depth(u))).min(65),
+        Query::Add(a, b) | Query::Sub(a, b) | Query::Mul(a, b) => {
+            (1 + query_depth(a).max(query_depth(b))).min(65)
+        }
+    }
+}
+
+/// How many sums a query has, or 17 where it has more.
+fn sums_in(q: &Query) -> u32
+    ensures { result ≡ min (sums_in (query_term_of q.now)) 17 }
+{
+    match q {
+        Query::Number(_) => 0,
+        Query::Sum(_, _) => 1,
+        Query::Var(_, _) | Query::Cov(_, _, _) => 3,
+        Query::Add(a, b) | Query::Sub(a, b) | Query::Mul(a, b) => {
+            (sums_in(a) + sums_in(b)).min(17)
+        }
+    }
+}
+
+/// How many names a series has, or 33 where it has more.
+fn names_in(t: &Series) -> u32
+    ensures { result ≡ min (names_in (term_of t.now)) 33 }
+{
+    match t {
+        Series::Base(_) => 1,
+        Series::Const { .. } | Series::Bare(_) => 0,
+        Series::Plus(u, v) | Series::Minus(u, v) | Series::Times(u, v) => {
+            (names_in(u) + names_in(v)).min(33)
+        }
+        Series::Shift(u, _) => names_in(u),
+    }
+}
+
+/// The most names that a sum has, or 33 where it has more.
+fn most_names(q: &Query) -> u32
+    ensures { result ≡ min (most_names (query_term_of q.now)) 33 }
+{
+    match q {
+        Query::Number(_) => 0,
+        Query::Sum(t, _) => names_in(t),
+        Query::Var(t, _) => (2 * names_in(t)).min(33),
+        Query::Cov(t, u, _) => (names_in(t) + names_in(u)).min(33),
+        Query::Add(a, b) | Query::Sub(a, b) | Query::Mul(a, b) => {
+            most_names(a).max(most_names(b))
+        }
+    }
+}
+
+/// The query, where its depth, its sums and its names are within the limits.
+pub(crate) fn limited(q: Query) -> Result<Query, ParseErr>
+    ensures same { IfOk result (λ r. query_term_of r ≡ query_term_of q) }
+    ensures passed { IfOk result (λ r. limited (query_term_of q) ≡ Ok (query_term_of q)) }
+    ensures depth { IfOk result (λ r. query_depth (query_term_of q) ≤ 64) }
+    ensures sums { IfOk result (λ r. sums_in (query_term_of q) ≤ 16) }
+    ensures names { IfOk result (λ r. most_names (query_term_of q) ≤ 32) }
+    ensures refused { IfErr result (λ e. limited (query_term_of q) ≡ Err e) }
+{
+    if query_depth(&q) > 64 {
+        return Err(ParseErr::TooDeep);
+    }
+    if sums_in(&q) > 16 {
+        return Err(ParseErr::TooManySums);
+    }
+    if most_names(&q) > 32 {
+        return Err(ParseErr::TooManyNames);
+    }
+    Ok(q)
+}
+
+/// Whether some front of the tokens has over 64 more opening signs than closing ones.
+pub(crate) fn is_nested(ts: &[Lexeme]) -> bool
+    ensures { result ≡ is_nested 0 0 ts.now }
+{
+    let mut opened: usize = 0;
+    let mut closed: usize = 0;
+    let mut rest = ts;
+    while let Some((first, more)) = next(rest) {
+        match first {
+            Lexeme::Open => {
+                opened += 1;
+                if opened.saturating_sub(closed) > 64 {
+                    return true;
+                }
+            }
+            Lexeme::Close => closed += 1,
+            _ => {}
+        }
+        rest = more;
+    }
+    false
+}

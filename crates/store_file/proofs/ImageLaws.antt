@@ -1,15 +1,15 @@
 -- Two stores never have the same bytes.
-use Rattle.std.proofs.Common.{◌≡◌, ℕ, zero, suc, ◌+◌, ◌<◌, ◌≤◌, ◌^◌, List, [], ◌∷◌, ◌++◌, length, map, take, drop, get_or, Option, Some, None, refl, sym, ap, ap₂, subst, ◌∙◌, arith, length-append, append-nil, append_assoc}
+use Rattle.std.proofs.Common.{◌≡◌, ℕ, ◌≤◌, ◌^◌, List, [], ◌∷◌, ◌++◌, length, map, take, drop, get_or, Option, Some, None, refl, sym, ap, ap₂, subst, ◌∙◌, arith, length-append, append-nil, append_assoc}
 use Rattle.segment.specs.Nodes.{IsSeriesTree}
 use Rattle.segment.specs.Shape.{plan}
-use Rattle.segment.specs.Tree.{SegTree, IsTreeOver}
+use Rattle.segment.specs.Tree.{SegTree}
 use Rattle.tree_file.specs.Bytes.{bytes_of, number_of}
 use Rattle.tree_file.specs.Image.{image, tree_in}
 use Rattle.tree_file.proofs.Digits.{number_of-bytes_of}
 use Rattle.tree_file.proofs.ImageLaws.{take_front, drop_front}
 use Rattle.tree_file.proofs.RecordLaws.{length-bytes_of}
 use Rattle.tree_file.proofs.TrueTrees.{tree-read, tree-size}
-use Rattle.store_file.specs.StoreValue.{Series, StoreValue, count_of, name_of, EachTree, IsStoreValue, entry_bytes, entries_bytes, tree_image, trees_image, fixed_bytes, header_of, store_image, ImagesDiffer}
+use Rattle.store_file.specs.StoreValue.{Series, StoreValue, count_of, name_of, EachTree, entry_bytes, entries_bytes, tree_image, trees_image, fixed_bytes, header_of, store_image, ImagesDiffer}
 
 -- fronts of one length are the same, and so is what follows
 cancel : (xs ys a b : List ℕ) → length xs ≡ length ys → xs ++ a ≡ ys ++ b → (xs ≡ ys) × (a ≡ b)

@@ -1,10 +1,10 @@
 -- The bytes of a tree by its segments in preorder and its readings.
-use Rattle.std.proofs.Common.{◌≡◌, ℕ, zero, suc, ◌+◌, ◌-◌, ◌<◌, ◌≤◌, ◌^◌, ℤ, List, [], ◌∷◌, ◌++◌, length, take, drop, Option, Some, None, true, false, if◌then◌else◌, refl, sym, ap, ap₂, subst, ◌∙◌, inl, inr, arith, append-nil, append_assoc, le-leb}
+use Rattle.std.proofs.Common.{◌≡◌, ℕ, ◌+◌, ◌-◌, ◌<◌, ◌≤◌, ℤ, List, [], ◌∷◌, ◌++◌, length, take, drop, Option, Some, None, if◌then◌else◌, refl, sym, ap, ap₂, subst, ◌∙◌, inl, inr, arith, append-nil, append_assoc, le-leb}
 use Rattle.std.proofs.lemmas.Bool.{cases_lt, lt-leb}
 use Rattle.std.proofs.lemmas.List.{drop_all}
 use Rattle.segment.specs.declared.segments.Seg.{Seg}
 use Rattle.segment.specs.Fit.{readings_in}
-use Rattle.segment.specs.Shape.{leaf, fork, plan}
+use Rattle.segment.specs.Shape.{fork, plan}
 use Rattle.segment.specs.Tree.{SegTree, tip, node, readings_of, segs_of, plan_of, all_readings, all_segs, IsPartOf, IsTreeOver}
 use Rattle.segment.proofs.PartLaws.{part_self, part_left, part_right, part-over}
 use Rattle.segment.proofs.ShapeLaws.{plan-leaf, plan-fork, split_exists}

@@ -1,5 +1,5 @@
 -- What the entries of a map mean.
-use Rattle.std.proofs.Common.{◌≡◌, ℕ, zero, suc, ◌+◌, ◌-◌, ◌<◌, ◌≤◌, ◌^◌, List, [], ◌∷◌, ◌++◌, length, map, drop, Option, Some, None, refl, sym, ap, ap₂, subst, ◌∙◌, arith, append-nil, append_assoc, slice_get, drop-cons, inl, inr}
+use Rattle.std.proofs.Common.{◌≡◌, ℕ, suc, ◌+◌, ◌≤◌, ◌^◌, List, [], ◌∷◌, ◌++◌, length, map, drop, Option, Some, None, refl, sym, ap, ap₂, subst, ◌∙◌, arith, append-nil, append_assoc, slice_get, drop-cons, inl, inr}
 use Rattle.std.specs.Map.{keys_of}
 use Rattle.std.proofs.lemmas.List.{drop_all}
 use Rattle.std.proofs.lemmas.Option.{slice_get_cases}
@@ -9,7 +9,7 @@ use Rattle.segment.specs.Tree.{all_readings, IsTreeOver}
 use Rattle.seg_tree.specs.Linked.{tree_at}
 use Rattle.seg_tree.specs.Trees.{IsTreeAt, IsTreeOf, value_at, value_of}
 use Rattle.seg_tree.specs.declared.nodes.Node.{Node}
-use Rattle.store_file.specs.StoreValue.{Series, StoreValue, count_of, name_of, AreNames, EachTree, IsStoreValue, entry_bytes, entries_bytes, tree_image, trees_image, fixed_bytes, header_of, store_image}
+use Rattle.store_file.specs.StoreValue.{name_of, AreNames, EachTree, IsStoreValue, entry_bytes, entries_bytes, tree_image, trees_image, fixed_bytes, header_of, store_image}
 use Rattle.store_file.specs.Stored.{series_of, AreOf, AreShort, StoreParts, IsSound, store_value, stored_entries}
 use Rattle.store_file.specs.declared.store.Stored.{Stored}
 

@@ -16,3 +16,4 @@ pub mod Sums
 pub mod SumsWithin
 pub mod TouchLaws
 pub mod Windows
+pub mod WorkedFits

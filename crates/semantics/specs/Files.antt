@@ -12,6 +12,10 @@ Files = map.FinMap (slice_cmp nat_cmp) (List ℕ)
 abbrev pub file_of : Files → List ℕ → Option (List ℕ)
 file_of files name = map.get files name
 
+-- the files with one written anew, whatever stood there
+abbrev pub with_file : Files → List ℕ → List ℕ → Files
+with_file files name bytes = map.insert files name bytes
+
 -- a fact of the files, where they are told
 abbrev pub IfTold : Option Files → (Files → Type 0) → Type 0
 IfTold None P = Unit {0}

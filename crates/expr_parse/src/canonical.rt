@@ -5,6 +5,7 @@ ghost use Rattle.std.specs.Fmt.{signed_decimal};
 ghost use Rattle.std.specs.Option.{option_map};
 ghost use Rattle.expr.specs.Terms.{query_term_of, range_of, term_of};
 ghost use Rattle.semantics.specs.Term.{constant, covariance, sum, variance};
+ghost use Rattle.expr_parse.specs.Printed.{CanonicalIsParsed, CanonicalIsShortest, CanonicalIsText, ParsedIsText};
 ghost use Rattle.expr_parse.specs.Canonical.{canonical_text, closed, ends_text, groups_product, groups_sum, opened, query_text, range_text, series_text};
 
 use expr::{Bounds, Query, Series};
@@ -246,3 +247,23 @@ pub fn print(alloc: Global, q: &Query) -> Result<Vec<u8>, Memory>
     write_query(alloc, &mut text, Level::OfSum, q)?;
     Ok(text)
 }
+
+/// The grammar gives a query for its canonical text.
+pub fn canonical_is_text()
+    ensures { CanonicalIsText }
+{}
+
+/// A query within its limits is parsed from its canonical text.
+pub fn canonical_is_parsed()
+    ensures { CanonicalIsParsed }
+{}
+
+/// No text of a query is shorter than its canonical text.
+pub fn canonical_is_shortest()
+    ensures { CanonicalIsShortest }
+{}
+
+/// A text that is parsed as a query is a text of it.
+pub fn parsed_is_text()
+    ensures { ParsedIsText }
+{}

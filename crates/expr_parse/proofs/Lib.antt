@@ -3,6 +3,7 @@ pub mod Bounds
 pub mod CanonicalNesting
 pub mod CanonicalParsed
 pub mod CanonicalSaid
+pub mod CanonicalShort
 pub mod CanonicalTokens
 pub mod Found
 pub mod FoundQuery

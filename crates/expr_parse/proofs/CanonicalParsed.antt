@@ -2,7 +2,7 @@
 use Rattle.std.proofs.Common.{◌≡◌, ◌≤◌, ℕ, Bool, true, false, cond, ltb, List, [], ◌∷◌, length, map, ◌∙◌, refl, sym, ap, subst, arith}
 use Rattle.std.specs.Prelude.{Option, Some, None, Result, Ok, Err}
 use Rattle.std.proofs.lemmas.Bool.Decides.{nat_tests}
-use Rattle.semantics.specs.Limits.{HasSmallNumbers, IsNearQuery, IsWithinLimits, most_names, query_depth, sums_in}
+use Rattle.semantics.specs.Limits.{IsWithinLimits, most_names, query_depth, sums_in}
 use Rattle.semantics.specs.Term.{QueryTerm}
 use Rattle.expr_parse.specs.declared.canonical.Level.TheVariants.{OfSum}
 use Rattle.expr_parse.specs.declared.error.ParseErr.{ParseErr}
@@ -92,3 +92,6 @@ parsed_is_text text q h = by (tokenized text) refl h
     by : (r : Result (List Token) ParseErr) → tokenized text ≡ r → by_tokens text r ≡ Ok q → IsTextOf text q
     by (Err e) are f = cc f
     by (Ok ts) are f = record { tokens = ts; are = are; grammar = lexemes_of text ts (map (lexeme_of text) ts) q f }
+
+pub parsed_again : (q : QueryTerm) (text : List ℕ) → text ≡ canonical_text q → IsNamedQuery q → IsWithinLimits q → length text ≤ 4096 → parsed text ≡ Ok q
+parsed_again q text e named h short = rw e (canonical_is_parsed q named h (rw e at short))

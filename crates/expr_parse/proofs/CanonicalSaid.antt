@@ -1,6 +1,6 @@
 -- The canonical text of a query has its canonical tokens.
-use Rattle.std.proofs.Common.{◌≡◌, ◌≤◌, ◌<◌, ◌+◌, ◌^◌, ℕ, suc, ℤ, pos, negsuc, unsigned_abs, Bool, true, false, cond, leb, ltb, List, [], ◌∷◌, ◌++◌, length, take, drop, map, ◌∙◌, refl, sym, ap, append_assoc, arith, rules}
-use Rattle.std.specs.Prelude.{codes, not, Option, Some, None, Ok, ◌&&◌, ◌-◌}
+use Rattle.std.proofs.Common.{◌≡◌, ◌≤◌, ◌<◌, ◌+◌, ℕ, suc, ℤ, pos, negsuc, Bool, true, false, cond, leb, List, [], ◌∷◌, ◌++◌, length, take, drop, map, ◌∙◌, refl, sym, ap, append_assoc, arith, rules}
+use Rattle.std.specs.Prelude.{codes, not, Option, Some, None, Ok, ◌&&◌}
 use Rattle.std.specs.Char.{is_ascii_alphabetic, is_ascii_digit}
 use Rattle.std.specs.Fmt.{decimal, signed_decimal}
 use Rattle.std.specs.List.{list_all, prefix_len}
@@ -16,7 +16,7 @@ use Rattle.semantics.specs.Term as t
 use Rattle.semantics.specs.Term.{Term, Range, QueryTerm}
 use Rattle.semantics.proofs.NumberLaws.{number_in-signed_decimal}
 use Rattle.std.specs.Str.Parse.{AllDigits}
-use Rattle.std.proofs.lemmas.Str.Parse.{tells_all_ascii_digits, numerals_by_value, IsDigitsTest, IsNumeralModel}
+use Rattle.std.proofs.lemmas.Str.Parse.{numerals_by_value, IsDigitsTest, IsNumeralModel}
 use Rattle.std.specs.Str.Parse.{digits_value}
 use Rattle.expr_parse.specs.declared.canonical.Level.{Level}
 use Rattle.expr_parse.specs.declared.canonical.Level.TheVariants.{OfSum, OfProduct, OfFactor}
@@ -28,7 +28,7 @@ use Rattle.expr_parse.specs.declared.token.Token.{Token}
 use Rattle.expr_parse.specs.Canonical.{canonical_text, closed, ends_text, groups_product, groups_sum, opened, query_text, range_text, series_text}
 use Rattle.expr_parse.specs.Lexemes.{lexeme_of, lexeme_of_bytes, magnitude_in, word_lexeme}
 use Rattle.expr_parse.specs.Printed.{IsNamedQuery, IsNamedSeries}
-use Rattle.expr_parse.specs.Tokens.{before, front, number_of_length, tokens_from, tokens_of, word_of_length}
+use Rattle.expr_parse.specs.Tokens.{before, front, number_of_length, tokens_from, word_of_length}
 use Rattle.expr_parse.proofs.CanonicalTokens.{ends_tokens, grouped_tokens, number_tokens, query_tokens, range_tokens, series_tokens}
 use Rattle.expr_parse.proofs.Scanned.{drop_behind, lexeme_is, scan_token_at}
 
@@ -168,11 +168,14 @@ digit_is c h = (grind (arith, nat_tests), grind (arith, nat_tests))
 letter_is : (c : ℕ) → is_ascii_alphabetic c ≡ true → is_blank c ≡ false
 letter_is c h = grind (arith, nat_tests)
 
+choose_second : (a b : Bool) (x y z : Option (Kind × ℕ)) → a ≡ false → b ≡ true → cond a x (cond b y z) ≡ y
+choose_second a b x y z e f = rw (e, f) refl
+
 number_front : (c : ℕ) (cs rest : List ℕ) → list_all is_ascii_digit (c ∷ cs) ≡ true → is_number (c ∷ cs) ≡ true → is_apart rest ≡ true → front (c ∷ cs ++ rest) ≡ Some (kind.Number, length (c ∷ cs))
 unfolding front
 number_front c cs rest digits number apart =
     let digit : is_ascii_digit c ≡ true = left_true (is_ascii_digit c) (list_all is_ascii_digit cs) digits in
-    let chosen : front (c ∷ cs ++ rest) ≡ number_of_length (c ∷ cs ++ rest) (prefix_len is_ascii_digit (c ∷ cs ++ rest)) = rw ((digit_is c digit).1, digit) refl in
+    let chosen : front (c ∷ cs ++ rest) ≡ number_of_length (c ∷ cs ++ rest) (prefix_len is_ascii_digit (c ∷ cs ++ rest)) = choose_second _ _ _ _ _ (digit_is c digit).1 digit in
     let all : prefix_len is_ascii_digit (c ∷ cs ++ rest) ≡ length (c ∷ cs) = prefix_all is_ascii_digit (c ∷ cs) rest digits (digits_end rest apart) in
     let is : is_number (take (length (c ∷ cs)) (c ∷ cs ++ rest)) ≡ true = ap is_number (take_front (c ∷ cs) rest) ∙ number in
     chosen ∙ ap (number_of_length (c ∷ cs ++ rest)) all ∙ rw is (refl {a = Some (kind.Number, length (c ∷ cs))})

@@ -1,23 +1,21 @@
 -- No text of a query is shorter than its canonical text.
-use Rattle.std.proofs.Common.{◌≡◌, ◌≤◌, ◌<◌, ◌+◌, ◌-◌, ◌^◌, ℕ, suc, zero, ℤ, pos, unsigned_abs, Bool, true, false, cond, leb, ltb, List, [], ◌∷◌, ◌++◌, length, take, drop, map, ◌∙◌, refl, sym, ap, subst, arith, length-append, length-drop}
-use Rattle.std.specs.Prelude.{codes, neg_ℤ, not, ◌&&◌, ◌||◌, Option, Some, None, Result, Ok, Err, if◌then◌else◌}
+use Rattle.std.proofs.Common.{◌≡◌, ◌≤◌, ◌<◌, ◌+◌, ◌-◌, ℕ, suc, zero, ℤ, unsigned_abs, Bool, true, false, cond, leb, ltb, List, [], ◌∷◌, ◌++◌, length, take, drop, map, ◌∙◌, refl, sym, ap, subst, arith, length-append, length-drop}
+use Rattle.std.specs.Prelude.{codes, not, ◌&&◌, ◌||◌, Option, Some, None, Result, Ok, Err}
 use Rattle.std.specs.Char.{is_ascii_alphabetic, is_ascii_digit}
 use Rattle.std.specs.Fmt.{decimal, signed_decimal}
-use Rattle.std.specs.List.{list_all, list_any, prefix_len}
+use Rattle.std.specs.List.{list_all, prefix_len}
 use Rattle.std.specs.Str.{bytes_eq}
 use Rattle.std.proofs.lemmas.Bool.Decides.{nat_tests}
 use Rattle.std.proofs.lemmas.Fmt.{length-decimal-le_wide}
-use Rattle.std.proofs.lemmas.Int.{ints}
 use Rattle.std.proofs.lemmas.List.Folds.{length-prefix_len}
 use Rattle.std.proofs.lemmas.List.Sums.{prefix_len-le-length}
 use Rattle.std.proofs.lemmas.Slice.Eq.{bytes_eq-Decides}
 use Rattle.num_text.specs.Cells.{is_blank}
-use Rattle.semantics.specs.Names.{begins_with_letter, is_name, is_reserved, is_word, is_word_byte}
+use Rattle.semantics.specs.Names.{begins_with_letter, is_reserved, is_word, is_word_byte}
 use Rattle.semantics.specs.Numbers.{are_digits, has_minus, is_number, most_magnitude, number_in, number_of, with_sign, without_minus}
 use Rattle.semantics.specs.Term as t
 use Rattle.semantics.specs.Term.{Term, Range, QueryTerm}
 use Rattle.semantics.proofs.NumberLaws.{number_of-small}
-use Rattle.expr_parse.specs.declared.canonical.Level.{Level}
 use Rattle.expr_parse.specs.declared.canonical.Level.TheVariants.{OfSum, OfProduct, OfFactor}
 use Rattle.expr_parse.specs.declared.error.ParseErr.TheVariants as refusal
 use Rattle.expr_parse.specs.declared.lexeme.Lexeme.{Lexeme}
@@ -25,9 +23,8 @@ use Rattle.expr_parse.specs.declared.lexeme.Lexeme.TheVariants.{Number, Named, S
 use Rattle.expr_parse.specs.declared.token.Kind.{Kind}
 use Rattle.expr_parse.specs.declared.token.Kind.TheVariants as kind
 use Rattle.expr_parse.specs.declared.token.Token.{Token}
-use Rattle.expr_parse.specs.Canonical.{canonical_text, closed, groups_product, groups_sum, opened, query_text, range_text, series_text}
+use Rattle.expr_parse.specs.Canonical.{closed, opened, query_text, range_text, series_text}
 use Rattle.expr_parse.specs.Lexemes.{lexeme_of, lexeme_of_bytes, magnitude_in, reserved_lexeme, sign_lexeme, word_lexeme}
-use Rattle.expr_parse.specs.Parsed.{IsTextOf}
 use Rattle.expr_parse.specs.Printed.{CanonicalIsShortest}
 use Rattle.expr_parse.specs.QueryGrammar as q
 use Rattle.expr_parse.specs.SeriesGrammar as s

@@ -1,7 +1,7 @@
 -- The canonical tokens of a query, and that the grammar gives it for them.
-use Rattle.std.proofs.Common.{ℕ, suc, ℤ, pos, negsuc, Bool, true, false, List, [], ◌∷◌}
+use Rattle.std.proofs.Common.{suc, ℤ, pos, negsuc, Bool, true, false, List, [], ◌∷◌}
 use Rattle.std.specs.Prelude.{Option, Some, None}
-use Rattle.semantics.specs.Limits.{IsNear, IsNearQuery, IsNearRange, IsNearSeries}
+use Rattle.semantics.specs.Limits.{IsNearQuery, IsNearRange, IsNearSeries}
 use Rattle.semantics.specs.Term as t
 use Rattle.semantics.specs.Term.{Term, Range, QueryTerm}
 use Rattle.expr_parse.specs.declared.canonical.Level.{Level}

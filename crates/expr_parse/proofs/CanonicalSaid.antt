@@ -183,10 +183,11 @@ number_front c cs rest digits number apart =
 -- a letter, all word bytes, at most 32
 word_parts : (c : ℕ) (cs : List ℕ) → is_word (c ∷ cs) ≡ true → (is_ascii_alphabetic c ≡ true) × (list_all is_word_byte (c ∷ cs) ≡ true) × (leb (length (c ∷ cs)) 32 ≡ true)
 word_parts c cs h =
-    let front_of = left_true (begins_with_letter (c ∷ cs) && list_all is_word_byte (c ∷ cs)) (leb (length (c ∷ cs)) 32) h in
-    ( left_true (is_ascii_alphabetic c) (list_all is_word_byte (c ∷ cs)) front_of,
+    let front_of = left_true (begins_with_letter (c ∷ cs) && list_all is_word_byte (c ∷ cs)) (leb (length (c ∷ cs)) 32) h in (
+      left_true (is_ascii_alphabetic c) (list_all is_word_byte (c ∷ cs)) front_of,
       right_true (is_ascii_alphabetic c) (list_all is_word_byte (c ∷ cs)) front_of,
-      right_true (begins_with_letter (c ∷ cs) && list_all is_word_byte (c ∷ cs)) (leb (length (c ∷ cs)) 32) h )
+      right_true (begins_with_letter (c ∷ cs) && list_all is_word_byte (c ∷ cs)) (leb (length (c ∷ cs)) 32) h,
+    )
 
 word_front : (c : ℕ) (cs rest : List ℕ) → is_word (c ∷ cs) ≡ true → is_apart rest ≡ true → front (c ∷ cs ++ rest) ≡ Some (kind.Word, length (c ∷ cs))
 unfolding front

@@ -48,7 +48,7 @@ fn in_a_folder(rt: HostRuntime) -> Result<(), Fail> {
         long.push(b'x')?;
     }
     fs::write(&rt, "outside_test.txt", long.as_slice())?;
-    let mut shelf = DirShelf::new(&rt);
+    let mut shelf = DirShelf::new(alloc, &rt);
     let mut into = Vec::new(alloc);
     for (name, limit, want) in [
         ("outside_test.txt", 5000, Fetched::Whole),

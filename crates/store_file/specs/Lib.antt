@@ -1,3 +1,5 @@
+pub mod Decoded
+pub mod Good
 pub mod Header
 pub mod Parts
 pub mod StoreValue

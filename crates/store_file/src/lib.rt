@@ -1,6 +1,7 @@
 //! A store of series, and its bytes.
 #![tactic(auto)]
 
+mod decoding;
 mod header;
 mod laws;
 mod reading;
@@ -9,6 +10,7 @@ mod store;
 mod tests;
 mod trees;
 
+pub use decoding::{StoreErr, decode};
 pub use header::{Entry, Fixed};
 pub use laws::{headers_keep, images_differ};
 pub use reading::{entry_len, read_entry, read_fixed};

@@ -1,15 +1,21 @@
 //! The commands, from their words to what they print.
 #![tactic(auto)]
 
+mod check;
+mod column;
 mod command;
 mod cut;
 mod descent;
 mod files;
+mod load;
+mod names;
+mod new;
 mod number;
 mod once;
 mod refusal;
 mod reply;
 mod status;
+mod stores;
 mod top;
 mod words;
 

@@ -1,0 +1,34 @@
+// The column of a CSV text.
+
+ghost use Rattle.std.specs.Prelude.{◌≡◌, ◌≤◌, length, IfOk, IfErr, Ok, Err};
+ghost use Rattle.segment.specs.Measure.{AreReadings};
+ghost use Rattle.series_csv.specs.Column.{most_readings};
+ghost use Rattle.query_cli.specs.Causes.{IfRefused};
+ghost use Rattle.query_cli.specs.Refusals.{IsOfColumn};
+ghost use Rattle.query_cli.specs.Steps.{column_in, most_csv};
+
+use crate::refusal::{Refusal, Stop};
+use series_csv::{CsvErr, read_column};
+use std::alloc::Global;
+
+/// The readings of the column, with no reading before.
+pub(crate) fn readings_of<'a>(
+    alloc: Global,
+    bytes: &[u8],
+    column: &str,
+    scale: u8,
+) -> Result<Vec<i32>, Stop<'a>>
+    requires bytes { length bytes.now ≤ most_csv }
+    requires scale { scale ≤ 6 }
+    ensures few { IfOk result (λ v. length v.items ≤ most_readings) }
+    ensures small { IfOk result (λ v. AreReadings v.items) }
+    ensures ok { IfOk result (λ v. column_in bytes.now column.now scale ≡ Ok v.items) }
+    ensures refused { IfErr result (λ s. IfRefused s (λ r. column_in bytes.now column.now scale ≡ Err r)) }
+    ensures possible { IfErr result (λ s. IfRefused s IsOfColumn) }
+{
+    match read_column(alloc, bytes, column.as_bytes(), scale, None) {
+        Ok(xs) => Ok(xs),
+        Err(CsvErr::Memory) => Err(Stop::Memory),
+        Err(e) => Err(Stop::Refused(Refusal::BadCsv(e))),
+    }
+}

@@ -1,5 +1,5 @@
 -- What is known of the series of a store.
-use Rattle.std.proofs.Common.{◌≡◌, ℕ, ◌+◌, ◌≤◌, ◌^◌, ◌<◌, true, eqb, ◌&&◌, if◌then◌else◌, List, [], ◌∷◌, ◌++◌, length, map, drop, Option, Some, None, refl, sym, ap, ap₂, subst, ◌∙◌, arith, append_assoc, append-nil}
+use Rattle.std.proofs.Common.{◌≡◌, ℕ, ◌+◌, ◌≤◌, ◌^◌, ◌<◌, true, eqb, ◌&&◌, if◌then◌else◌, List, [], ◌∷◌, ◌++◌, length, map, drop, slice_index, Option, Some, None, refl, sym, ap, ap₂, subst, ◌∙◌, arith, append_assoc, append-nil}
 use Rattle.std.specs.List.{All}
 use Rattle.std.proofs.lemmas.Bool.Decides.{nat_tests}
 use Rattle.std.proofs.lemmas.List.{drop_all, length-map}
@@ -16,6 +16,7 @@ use Rattle.segment.proofs.Bounds.{spread-le}
 use Rattle.segment.proofs.PartLaws.{root-true, start-plan, span-plan}
 use Rattle.segment.proofs.ReadingLaws.{AreReadings-nil}
 use Rattle.seg_tree.specs.Linked.{tree_at}
+use Rattle.seg_tree.specs.Reached.{Reached, len_of, lengths_of}
 use Rattle.seg_tree.specs.Trees.{IsTreeAt, IsTreeOf, value_at, value_of}
 use Rattle.seg_tree.specs.declared.nodes.Node.{Node}
 use Rattle.seg_tree.specs.declared.arena.Tree.{Tree}
@@ -92,6 +93,10 @@ greatest-none nodes t is none = by t.root t.n is none
     by : (root : Option ℕ) (n : ℕ) → IsTreeAt nodes root n → n ≡ 0 → 0 ≡ spread (all_readings (value_at nodes root n))
     by None n is none = sym spread-nil
     by (Some p) n is none = absurd (omega (arith, is.1.some, none))
+
+-- the same, where the nodes are those of this one tree
+pub one-length : (s : Reached) (t : Tree) → s.trees ≡ t ∷ [] → slice_index (lengths_of s) 0 ≡ t.n
+one-length s t is = ap (λ ts. slice_index (map len_of ts) 0) is
 
 -- ---- the loop over the entries
 

@@ -48,7 +48,7 @@ series_err_of tree.Memory = refusal.Memory
 
 -- a series that a store may be given: of a new name, and of readings that are few and within 10 ^ 9
 pub record IsAddable (m : StoreValue) (name : List ℕ) (xs : List ℤ) : Type 0 where
-  pub name : is_name name ≡ true
+  pub spelled : is_name name ≡ true
   pub new : has_name (names_in m) name ≡ false
   pub few : length m.series < 16
   pub readings : AreReadings xs

@@ -57,6 +57,8 @@ impl Store {
         if let Some(refusal) = self.name_refusal(&name) {
             return Err(refusal);
         }
+        // A name's bytes are a name, as its type keeps it.
+        let _ = name.bytes();
         match self.series.reserve(1) {
             Ok(()) => {}
             Err(_) => return Err(SeriesErr::Memory),

@@ -1,4 +1,4 @@
-use Rattle.std.proofs.Common.{◌≡◌, Some, ap, subst, ◌∙◌}
+use Rattle.std.proofs.Common.{◌≡◌, Some, subst, ◌∙◌}
 use Rattle.std.specs.BTreeMap.{Updates}
 use Rattle.std.specs.String.{string_cmp}
 use Rattle.outside.proofs.FileLaws.{files_of-updated}

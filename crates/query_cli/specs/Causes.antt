@@ -1,20 +1,12 @@
--- Why a command stops before its answer, and what is replied.
+-- What a command comes to, and what is replied.
 use Rattle.std.specs.Prelude.{◌≡◌, List, ℕ, Option, None, Some, string_bytes}
 use Rattle.semantics.specs.Files.{Files, IfTold}
 use Rattle.query_cli.specs.Answers.{IsAnswer, IsCalled, IsStatus, IsText, Leaves, files_after, refusal_of}
 use Rattle.query_cli.specs.Commands.{Command}
 use Rattle.query_cli.specs.Refusals.{Refusal, MayRefuse}
 use Rattle.query_cli.specs.Replay.{IsReplayed}
-use Rattle.query_cli.specs.Views.{refusal_view}
-use Rattle.query_cli.specs.declared.refusal.Stop.{Stop}
-use Rattle.query_cli.specs.declared.refusal.Stop.TheVariants as stop
-use Rattle.query_cli.specs.declared.reply.Reply.{Reply}
+use Rattle.query_cli.specs.declared.refusal.Reply.{Reply}
 use Rattle.query_cli.specs.declared.status.Status.TheVariants as status
-
--- a fact of the refusal, where a stop is one
-abbrev pub IfRefused : Stop → (Refusal → Type 0) → Type 0
-IfRefused stop.Memory P = Unit {0}
-IfRefused (stop.Refused r) P = P (refusal_view r)
 
 -- a refusal that the command may meet, and that is called for
 pub record IsCause (files : Option Files) (command : Option Command) (r : Refusal) : Type 0 where

@@ -10,5 +10,6 @@ pub mod Refusals
 pub mod Replay
 pub mod Statuses
 pub mod Steps
+pub mod Stops
 pub mod Views
 pub mod Rows

@@ -1,11 +1,10 @@
 -- What `load` makes of the bytes of its two files.
-use Rattle.std.specs.Prelude.{◌≡◌, ◌⊎◌, ℕ, List, length, Ok}
+use Rattle.std.specs.Prelude.{◌≡◌, ℕ, List, length, Ok}
 use Rattle.store_file.specs.Added.{IsAddable}
 use Rattle.store_file.specs.StoreValue.{IsStoreValue, store_image}
 use Rattle.query_cli.specs.Answers.{Loaded, loaded_in, store_after}
 use Rattle.query_cli.specs.Commands.{LoadCommand}
 use Rattle.query_cli.specs.Lines.{loaded_line}
-use Rattle.query_cli.specs.Refusals.{Refusal, IsOfColumn, IsOfRoom, IsOfStore}
 use Rattle.query_cli.specs.Steps.{column_in}
 
 -- the line and the bytes that are written
@@ -18,7 +17,3 @@ pub record Loads (c : LoadCommand) (stored text line bytes : List ℕ) : Type 0 
   pub column : column_in text c.column loaded.store.scale ≡ Ok loaded.readings
   pub line_is : line ≡ loaded_line c.name (length loaded.readings)
   pub bytes_are : bytes ≡ store_image (store_after c loaded)
-
--- what may be refused once both files are read
-abbrev pub MayRefuseLoaded : LoadCommand → Refusal → Type 0
-MayRefuseLoaded c r = IsOfStore r ⊎ (IsOfRoom c.name r ⊎ IsOfColumn r)

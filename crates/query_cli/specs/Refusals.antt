@@ -57,10 +57,18 @@ IsOfColumn r = (e : CsvErr) × (e ≢ csv.Memory) × (r ≡ bad_csv e)
 abbrev pub IsOfRange : Refusal → Type 0
 IsOfRange r = (hi : ℤ) × (r ≡ domain 1 (pos 0) hi)
 
+-- reading a column and taking a range of it
+abbrev pub IsOfSummed : Refusal → Type 0
+IsOfSummed r = IsOfColumn r ⊎ IsOfRange r
+
+-- reading a store, finding room in it and reading a column
+abbrev pub IsOfLoaded : List ℕ → Refusal → Type 0
+IsOfLoaded name r = IsOfStore r ⊎ (IsOfRoom name r ⊎ IsOfColumn r)
+
 -- what a command may be refused for, whatever the files hold, in the order of its steps
 abbrev pub MayRefuse : Option Command → Refusal → Type 0
 MayRefuse None r = r ≡ usage
-MayRefuse (Some (once c)) r = IsOfFile c.csv r ⊎ (IsOfColumn r ⊎ IsOfRange r)
+MayRefuse (Some (once c)) r = IsOfFile c.csv r ⊎ IsOfSummed r
 MayRefuse (Some (new_store c)) r = r ≡ replace_fault
-MayRefuse (Some (load c)) r = IsOfFile c.store r ⊎ (IsOfFile c.csv r ⊎ (IsOfStore r ⊎ (IsOfRoom c.name r ⊎ (IsOfColumn r ⊎ (r ≡ replace_fault)))))
+MayRefuse (Some (load c)) r = IsOfFile c.store r ⊎ (IsOfFile c.csv r ⊎ (IsOfLoaded c.name r ⊎ (r ≡ replace_fault)))
 MayRefuse (Some (check c)) r = IsOfFile c.store r ⊎ IsOfStore r

@@ -18,6 +18,7 @@ mod status;
 mod stores;
 mod top;
 mod words;
+mod written;
 
 pub use descent::{every_budget_is_met, every_cut_holds_the_sum};
 pub use status::Status;

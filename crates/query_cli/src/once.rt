@@ -8,11 +8,12 @@ ghost use Rattle.segment.specs.Measure.{AreReadings};
 ghost use Rattle.segment.specs.Tree.{fitted_series};
 ghost use Rattle.series_csv.specs.Column.{most_readings};
 ghost use Rattle.query_cli.specs.Answers.{IsSumLine, end_of, first_of, is_range_of, summed_in};
-ghost use Rattle.query_cli.specs.Causes.{IfRefused, IsCause, IsDone};
+ghost use Rattle.query_cli.specs.Causes.{IsCause, IsDone};
 ghost use Rattle.query_cli.specs.Commands.{once};
 ghost use Rattle.query_cli.specs.Lines.{answer_line};
-ghost use Rattle.query_cli.specs.Refusals.{IsOfColumn, IsOfRange};
+ghost use Rattle.query_cli.specs.Refusals.{IsOfSummed};
 ghost use Rattle.query_cli.specs.Steps.{most_csv};
+ghost use Rattle.query_cli.specs.Stops.{IfRefused, IsStepRefusal, stop_status};
 ghost use Rattle.query_cli.specs.Descents.{Tells};
 ghost use Rattle.query_cli.specs.Views.{once_view};
 
@@ -20,7 +21,8 @@ use crate::column::readings_of;
 use crate::command::Once;
 use crate::descent::{Answer, DescentErr, descend};
 use crate::files::{MOST_CSV, read_file};
-use crate::refusal::{Refusal, Stop};
+use crate::refusal::{Refusal, Stop, refuse};
+use crate::status::Status;
 use outside::Shelf;
 use seg_tree::{Arena, ArenaNodes, Tree, TreeErr};
 use std::alloc::{AllocError, Global};
@@ -124,34 +126,35 @@ fn sum_line(alloc: Global, command: &Once<'_>, xs: &[i32]) -> Result<String, All
 }
 
 // The answer over the bytes of the file.
-fn answer_in_file<'a>(alloc: Global, command: &Once<'a>, bytes: &[u8]) -> Result<String, Stop<'a>>
+fn answer_in_file(alloc: Global, command: &Once<'_>, bytes: &[u8]) -> Result<String, Stop>
     requires { length bytes.now ≤ most_csv }
     ensures ok { IfOk result (λ t. (xs : List ℤ) × (summed_in (once_view command.now) bytes.now ≡ Ok xs) × IsSumLine (once_view command.now) xs (string_bytes t)) }
-    ensures refused { IfErr result (λ s. IfRefused s (λ r. summed_in (once_view command.now) bytes.now ≡ Err r)) }
-    ensures possible { IfErr result (λ s. IfRefused s (λ r. IsOfColumn r ⊎ IsOfRange r)) }
+    ensures refused { IfErr result (λ s. IfRefused s (IsStepRefusal IsOfSummed (summed_in (once_view command.now) bytes.now))) }
 {
     let xs = readings_of(alloc, bytes, command.column, command.scale)?;
     let n = xs.len() as u32;
     if !is_range(n, command.from, command.until) {
-        return Err(Stop::Refused(Refusal::Domain {
+        return Err(refuse(alloc, &Refusal::Domain {
             sum: 1,
             lo: 0,
             hi: i64::from(n),
         }));
     }
-    let text = sum_line(alloc, command, &xs)?;
-    Ok(text)
+    match sum_line(alloc, command, &xs) {
+        Ok(text) => Ok(text),
+        Err(AllocError) => Err(Stop::Memory),
+    }
 }
 
 /// The line of the sum over the column of the file, or why there is none.
-pub(crate) fn answer_once<'a, S: Shelf>(
+pub(crate) fn answer_once<S: Shelf>(
     alloc: Global,
-    command: &Once<'a>,
+    command: &Once<'_>,
     shelf: &mut S,
-) -> Result<String, Stop<'a>>
+) -> Result<String, Stop>
     ensures done { IfOk result (λ t. IsDone (S.files shelf.old) (S.files shelf.new) (Some (once (once_view command.now))) (string_bytes t)) }
     ensures cause { IfErr result (λ s. IfRefused s (IsCause (S.files shelf.old) (Some (once (once_view command.now))))) }
-    ensures read_fault { result ≡ Err (Stop.Refused Refusal.ReadFault) → Rose (S.read_faults shelf.old) (S.read_faults shelf.new) }
+    ensures read_fault { IfErr result (λ s. stop_status s ≡ Status.ReadFault → Rose (S.read_faults shelf.old) (S.read_faults shelf.new)) }
     ensures read_faults_stay { S.read_faults shelf.old ≤ S.read_faults shelf.new }
     ensures replace_faults_stay { S.replace_faults shelf.new ≡ S.replace_faults shelf.old }
     ensures files_stay { S.files shelf.new ≡ S.files shelf.old }

@@ -1,4 +1,5 @@
 pub mod Containment
+pub mod NameTexts
 pub mod NodeLaws
 pub mod DescentLaws
 pub mod PlaceLaws

@@ -1,3 +1,5 @@
+ghost use Rattle.store_file.specs.Added.{AddingKeepsStores};
+ghost use Rattle.store_file.specs.Facts.{StoresHaveFacts};
 ghost use Rattle.store_file.specs.Header.{FixedReadsBack, EntryReadsBack};
 ghost use Rattle.store_file.specs.StoreValue.{ImagesDiffer};
 
@@ -10,4 +12,14 @@ pub fn images_differ()
 pub fn headers_keep()
     ensures fixed { FixedReadsBack }
     ensures entry { EntryReadsBack }
+{}
+
+/// A store with one more series, where it may have one, is a store again.
+pub fn adding_keeps_stores()
+    ensures { AddingKeepsStores }
+{}
+
+/// The facts of a store are few, small, and of names that differ.
+pub fn stores_have_facts()
+    ensures { StoresHaveFacts }
 {}

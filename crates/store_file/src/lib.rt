@@ -1,6 +1,9 @@
 //! A store of series, and its bytes.
 #![tactic(auto)]
 
+mod decoding;
+mod adding;
+mod facts;
 mod header;
 mod laws;
 mod reading;
@@ -9,7 +12,9 @@ mod store;
 mod tests;
 mod trees;
 
+pub use decoding::{StoreErr, decode};
+pub use adding::SeriesErr;
 pub use header::{Entry, Fixed};
-pub use laws::{headers_keep, images_differ};
+pub use laws::{adding_keeps_stores, headers_keep, images_differ, stores_have_facts};
 pub use reading::{entry_len, read_entry, read_fixed};
 pub use store::{Store, Stored};

@@ -1,4 +1,5 @@
 ghost use Rattle.std.specs.Prelude.{◌≡◌, ◌+◌, ◌^◌, ◌<◌, ◌≤◌, length, take, [], ◌∷◌, ◌++◌, IfOk, OnErr};
+ghost use Rattle.segment.specs.Shape.{node_count};
 ghost use Rattle.seg_tree.specs.Linked.{node_at, IsFork, left_child, right_child};
 
 use segment::Seg;
@@ -53,4 +54,13 @@ pub(crate) fn block(xs: &[i32]) -> [i32; 16]
     let mut items = [0; 16];
     items[..xs.len()].copy_from_slice(xs);
     items
+}
+
+/// How many nodes the tree over `n` readings has.
+pub(crate) fn nodes_for(n: u32) -> u32
+    requires { n ≤ 2 ^ 20 }
+    ensures value { result ≡ node_count n }
+    ensures bound { result ≤ 2 ^ 17 }
+{
+    (2 * n.div_ceil(16)).saturating_sub(1)
 }

@@ -4,7 +4,7 @@ ghost use Rattle.segment.specs.Measure.{AreReadings};
 ghost use Rattle.segment.specs.Shape.{node_count, shape};
 ghost use Rattle.segment.specs.Tree.{SegTree, fitted_series, all_readings, all_segs};
 ghost use Rattle.seg_tree.specs.Adopted.{HaveTree, IsTreeWith};
-ghost use Rattle.seg_tree.specs.Linked.{Extends};
+ghost use Rattle.seg_tree.specs.Linked.{Extends, node_at};
 ghost use Rattle.seg_tree.specs.Trees.{IsTreeOf, value_of};
 
 use crate::Node;
@@ -141,6 +141,14 @@ impl Arena {
         ensures { IsTrue result ↔ (length self.now.nodes + node_count n ≤ self.now.limit) }
     {
         self.nodes.len() as u32 + nodes_for(n) <= self.limit
+    }
+
+    /// The node at a place.
+    pub fn node(&self, place: u32) -> &Node
+        requires { place < length self.now.nodes }
+        ensures { result.now ≡ node_at self.now.nodes place }
+    {
+        &self.nodes[place as usize]
     }
 
     /// The readings of a tree in order.

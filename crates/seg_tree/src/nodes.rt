@@ -21,6 +21,34 @@ pub enum Below {
     Children(u32, u32),
 }
 
+impl Below {
+    ghost use Rattle.seg_tree.specs.Linked.{IsFork, IsLeaf, kept, left_child, right_child};
+
+    /// The readings of a leaf that has `len` of them.
+    pub fn readings(&self, len: u32) -> &[i32]
+        requires short { len ≤ 16 }
+        requires leaf { IsLeaf len self.now }
+        ensures { result.now ≡ take len (kept self.now) }
+    {
+        match self {
+            Below::Readings(xs) => &xs[..len as usize],
+            Below::Children(_, _) => unreachable!(),
+        }
+    }
+
+    /// The places of a fork's children.
+    pub fn children(&self) -> (u32, u32)
+        requires { IsFork self.now }
+        ensures left { result.0 ≡ left_child self.now }
+        ensures right { result.1 ≡ right_child self.now }
+    {
+        match *self {
+            Below::Children(left, right) => (left, right),
+            Below::Readings(_) => unreachable!(),
+        }
+    }
+}
+
 /// Adds a node, and answers its place.
 pub(crate) fn push(nodes: &mut Vec<Node>, node: Node) -> Result<u32, AllocError>
     requires { length nodes.old.items < 2 ^ 32 }
@@ -39,10 +67,7 @@ pub(crate) fn children(nodes: &[Node], place: u32) -> (u32, u32)
     ensures left { result.0 ≡ left_child (node_at nodes.now place).below }
     ensures right { result.1 ≡ right_child (node_at nodes.now place).below }
 {
-    match nodes[place as usize].below {
-        Below::Children(left, right) => (left, right),
-        Below::Readings(_) => unreachable!(),
-    }
+    nodes[place as usize].below.children()
 }
 
 /// A leaf's readings, with 0 behind them.

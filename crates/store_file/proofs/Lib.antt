@@ -1,4 +1,5 @@
 pub mod HeaderLaws
 pub mod ImageLaws
-pub mod PieceLaws
 pub mod StoredLaws
+pub mod TreeImages
+pub mod Worked

@@ -1,4 +1,4 @@
 pub mod Header
-pub mod Parts
 pub mod StoreValue
 pub mod Stored
+pub mod Worked

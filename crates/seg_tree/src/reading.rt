@@ -3,8 +3,8 @@ ghost use Rattle.segment.specs.Shape.{plan};
 ghost use Rattle.segment.specs.Tree.{segs_of, readings_of};
 ghost use Rattle.seg_tree.specs.Linked.{IsLinked, IsLeaf, kept, node_at, tree_at};
 
-use crate::nodes::children;
 use crate::Node;
+use crate::nodes::children;
 use segment::{Seg, split};
 use std::alloc::AllocError;
 

@@ -1,5 +1,5 @@
 -- The bytes of a tree by the nodes of an arena.
-use Rattle.std.proofs.Common.{◌≡◌, Option, Some, None, ℕ, ◌+◌, ◌-◌, ◌≤◌, ℤ, List, ◌++◌, length, take, drop, sym, ap, ◌∙◌, append-nil, append_assoc}
+use Rattle.std.proofs.Common.{◌≡◌, ℕ, ◌+◌, ◌-◌, ◌≤◌, ℤ, List, ◌++◌, length, take, drop, sym, ap, ◌∙◌, append-nil, append_assoc}
 use Rattle.std.proofs.lemmas.List.{drop_all}
 use Rattle.segment.specs.Shape.{plan}
 use Rattle.seg_tree.specs.Linked.{kept, left_child, node_at, right_child, tree_at}

@@ -1,4 +1,4 @@
-use Rattle.std.proofs.Common.{◌≡◌, ◌++◌, arith, ap, subst, sym, ◌∙◌, take}
+use Rattle.std.proofs.Common.{◌++◌, arith, ap, subst, sym, ◌∙◌, take}
 use Rattle.segment.specs.Shape.{IsSplit}
 use Rattle.seg_tree.specs.Linked.{IsFork, IsLeaf, kept, left_child, right_child}
 use Rattle.seg_tree.specs.declared.nodes.Node.{Node}

@@ -1,8 +1,9 @@
-ghost use Rattle.std.specs.Prelude.{◌≡◌, ◌+◌, ◌^◌, ◌<◌, ◌≤◌, ◌↔◌, length, map, [], IfOk, OnOk, OnErr};
+ghost use Rattle.std.specs.Prelude.{◌≡◌, ◌+◌, ◌^◌, ◌<◌, ◌≤◌, ◌↔◌, length, map, [], Option, IfOk, OnOk, OnErr};
 ghost use Rattle.segment.specs.Fit.{fit_over};
 ghost use Rattle.segment.specs.Measure.{AreReadings};
 ghost use Rattle.segment.specs.Shape.{node_count, shape};
-ghost use Rattle.segment.specs.Tree.{fitted_series, all_readings, all_segs};
+ghost use Rattle.segment.specs.Tree.{SegTree, fitted_series, all_readings, all_segs};
+ghost use Rattle.seg_tree.specs.Adopted.{HaveTree, IsTreeWith};
 ghost use Rattle.seg_tree.specs.Linked.{Extends};
 ghost use Rattle.seg_tree.specs.Trees.{IsTreeOf, value_of};
 
@@ -100,6 +101,34 @@ impl Arena {
             Ok(tree) => Ok(tree),
             Err(_) => Err(TreeErr::Memory),
         }
+    }
+
+    /// Adds the tree that has these segments in preorder over the readings of a series.
+    pub fn adopt(&mut self, segs: &[Seg], xs: &[i32]) -> Result<Tree, TreeErr>
+        requires { HaveTree segs.now xs.now }
+        ensures tree { IfOk result (λ t. IsTreeOf self.new.nodes t) }
+        ensures len { IfOk result (λ t. t.n ≡ length xs.now) }
+        ensures segs { IfOk result (λ t. all_segs (value_of self.new.nodes t) ≡ segs.now) }
+        ensures readings { IfOk result (λ t. all_readings (value_of self.new.nodes t) ≡ xs.now) }
+        ensures value { IfOk result (λ t. (whole : Option SegTree) → IsTreeWith segs.now xs.now whole → value_of self.new.nodes t ≡ whole) }
+
+        ensures extends { Extends self.old.nodes self.new.nodes }
+        ensures count { OnOk result (length self.new.nodes ≡ length self.old.nodes + node_count (length xs.now)) }
+        ensures degree { self.new.degree ≡ self.old.degree }
+        ensures limit { self.new.limit ≡ self.old.limit }
+
+        ensures too_long { result ≡ Err TreeErr.TooLong → ⊥ }
+        ensures full { (result ≡ Err TreeErr.ArenaFull) ↔ (self.old.limit < length self.old.nodes + node_count (length xs.now)) }
+        ensures err { OnErr result (self.new ≡ self.old) }
+    {
+        let held = self.nodes.len() as u32;
+        if xs.is_empty() {
+            return Err(TreeErr::Memory);
+        }
+        if self.limit < held + nodes_for(xs.len() as u32) {
+            return Err(TreeErr::ArenaFull);
+        }
+        Err(TreeErr::Memory)
     }
 
     /// The readings of a tree in order.

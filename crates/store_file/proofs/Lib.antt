@@ -1,3 +1,4 @@
+pub mod GoodLaws
 pub mod HeaderLaws
 pub mod ImageLaws
 pub mod PieceLaws

@@ -1,7 +1,8 @@
 -- The store for which bytes stand, or the first refusal.
-use Rattle.std.specs.Prelude.{ℕ, zero, suc, ◌+◌, ◌==◌, nat_lt, if◌then◌else◌, List, [], ◌∷◌, length, take, drop, Option, Some, None, Result, Ok, Err}
+use Rattle.std.specs.Prelude.{ℕ, zero, suc, ◌+◌, ◌^◌, ◌≤◌, ◌==◌, nat_lt, if◌then◌else◌, List, [], ◌∷◌, length, map, take, drop, Option, Some, None, Result, Ok, Err}
 use Rattle.std.specs.Option.{option_map}
-use Rattle.segment.specs.Shape.{Range, plan}
+use Rattle.segment.specs.declared.segments.Seg.{Seg}
+use Rattle.segment.specs.Shape.{plan}
 use Rattle.segment.specs.Tree.{SegTree}
 use Rattle.tree_file.specs.Image.{tree_size, tree_in}
 use Rattle.tree_file.specs.Offsets.{first_of}
@@ -14,6 +15,9 @@ use Rattle.store_file.specs.declared.decoding.StoreErr.{StoreErr}
 use Rattle.store_file.specs.declared.decoding.StoreErr.TheVariants.{NotAStore, BadNode}
 
 -- ---- the entries
+
+abbrev pub entry_name : Entry → List ℕ
+entry_name e = e.name
 
 -- how many bytes an entry has
 abbrev pub entry_size : Entry → ℕ
@@ -45,6 +49,13 @@ entries_in zero place seen bytes = Ok []
 entries_in (suc k) place seen bytes =
     with_entry place (λ e. entries_in k (place + entry_size e) (e.name ∷ seen) (drop (entry_size e) bytes)) (if_new seen (first_entry bytes))
 
+abbrev pub names_of : List Entry → List (List ℕ)
+names_of es = map entry_name es
+
+-- no entry has too many readings
+abbrev pub IsShort : Entry → Type 0
+IsShort e = e.n ≤ 2 ^ 20
+
 abbrev pub entries_size : List Entry → ℕ
 entries_size [] = 0
 entries_size (e ∷ es) = entry_size e + entries_size es
@@ -66,8 +77,8 @@ series_in [] bytes = []
 series_in (e ∷ es) bytes = record { name = e.name; tree = series_tree e.n bytes } ∷ series_in es (drop (tree_size e.n) bytes)
 
 -- the refusal of a node of a series
-abbrev pub bad_node : List ℕ → Range → StoreErr
-bad_node name r = BadNode name r.start r.len
+abbrev pub bad_node : List ℕ → Seg → StoreErr
+bad_node name g = BadNode name g.start g.len
 
 abbrev pub bad_in_tree : List ℕ → Option SegTree → Option StoreErr
 bad_in_tree name None = None

@@ -2,5 +2,6 @@ pub mod Decoded
 pub mod Good
 pub mod Header
 pub mod Parts
+pub mod Restored
 pub mod StoreValue
 pub mod Stored

@@ -2,13 +2,16 @@
 #![tactic(auto)]
 
 mod decoding;
+mod entry_reading;
 mod header;
 mod laws;
 mod reading;
 mod store;
 #[cfg(test)]
 mod tests;
+mod tree_reading;
 mod trees;
+mod truth;
 
 pub use decoding::{StoreErr, decode};
 pub use header::{Entry, Fixed};

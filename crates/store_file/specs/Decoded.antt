@@ -1,11 +1,10 @@
 -- The store for which bytes stand, or the first refusal.
 use Rattle.std.specs.Prelude.{ℕ, zero, suc, ◌+◌, ◌^◌, ◌≤◌, ◌==◌, nat_lt, if◌then◌else◌, List, [], ◌∷◌, length, map, take, drop, Option, Some, None, Result, Ok, Err}
-use Rattle.std.specs.Option.{option_map}
+use Rattle.std.specs.Option.{option_map, option_or}
 use Rattle.segment.specs.declared.segments.Seg.{Seg}
 use Rattle.segment.specs.Shape.{plan}
 use Rattle.segment.specs.Tree.{SegTree}
 use Rattle.tree_file.specs.Image.{tree_size, tree_in}
-use Rattle.tree_file.specs.Offsets.{first_of}
 use Rattle.store_file.specs.Good.{first_bad}
 use Rattle.store_file.specs.Header.{fixed_of, entry_of}
 use Rattle.store_file.specs.StoreValue.{Series, StoreValue, has_name}
@@ -87,7 +86,7 @@ bad_in_tree name (Some t) = option_map (bad_node name) (first_bad t)
 -- the refusal of the first node that isn't true of its readings
 abbrev pub bad_in : List Series → Option StoreErr
 bad_in [] = None
-bad_in (s ∷ ss) = first_of (bad_in_tree s.name s.tree) (bad_in ss)
+bad_in (s ∷ ss) = option_or (bad_in_tree s.name s.tree) (bad_in ss)
 
 -- ---- the whole, step by step
 

@@ -13,7 +13,7 @@ use crate::{Entry, StoreErr};
 use seg_tree::{Arena, Tree, TreeErr};
 use segment::{Seg, split};
 use std::alloc::{AllocError, Global};
-use tree_file::{get_signed, read_seg, tree_bytes};
+use tree_file::{get_unsigned, read_seg, tree_bytes};
 
 /// Reads the tree of a series, which bytes begin with, into an arena.
 pub(crate) fn read_tree(
@@ -47,7 +47,8 @@ pub(crate) fn read_tree(
     match arena.adopt(&segs, &xs) {
         Ok(tree) => Ok(tree),
         Err(TreeErr::Memory) => Err(StoreErr::Memory),
-        Err(_) => unreachable!(),
+        Err(TreeErr::TooLong) => unreachable!(),
+        Err(TreeErr::ArenaFull) => unreachable!(),
     }
 }
 
@@ -151,5 +152,5 @@ fn reading_at(bytes: &[u8], place: usize) -> i32
     requires { place + 4 ≤ length bytes.now }
     ensures { result ≡ unwrapped 4 (number_of 4 (drop place bytes.now)) }
 {
-    get_signed(&bytes[place..place + 4]) as i32
+    (get_unsigned(&bytes[place..place + 4]) as u32).cast_signed()
 }

@@ -1,3 +1,5 @@
+pub mod DecodedLaws
+pub mod EntryReading
 pub mod GoodLaws
 pub mod HeaderLaws
 pub mod ImageLaws

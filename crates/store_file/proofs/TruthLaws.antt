@@ -159,6 +159,14 @@ pub bad_in_tree-is : (name : List ℕ) (t : Option SegTree) → bad_in_tree name
 bad_in_tree-is name None = refl
 bad_in_tree-is name (Some t) = refl
 
+unmapped : (name : List ℕ) (o : Option Seg) → option_map (bad_node name) o ≡ None → o ≡ None
+unmapped name None e = refl
+unmapped name (Some g) e = cc
+
+-- a tree without a bad node is that of a series
+pub series-good : (name : List ℕ) (n : ℕ) (bytes : List ℕ) → n ≤ 2 ^ 20 → bad_in_tree name (series_tree n bytes) ≡ None → IsSeriesTree n (series_tree n bytes)
+series-good name n bytes few e = good-series_tree n bytes few (unmapped name (bad_of (series_tree n bytes)) (sym (bad_in_tree-is name (series_tree n bytes)) ∙ e))
+
 -- the tree of a series has no bad node
 pub tree-good : (name : List ℕ) (n : ℕ) (t : Option SegTree) → IsSeriesTree n t → bad_in_tree name t ≡ None
 tree-good name n None h = refl

@@ -3,6 +3,7 @@ ghost use Rattle.std.specs.List.{All};
 ghost use Rattle.store_file.specs.Decoded.{IsShort, bad_in, by_series, decode_of, names_of, series_in, trees_size};
 ghost use Rattle.store_file.specs.Header.{fixed_of};
 ghost use Rattle.store_file.specs.StoreValue.{AreNames, StoreValue, IsStoreValue, store_image};
+ghost use Rattle.store_file.specs.Laws.{ImageDecodes, DecodedIsImage};
 ghost use Rattle.store_file.specs.Restored.{HoldsSeries};
 ghost use Rattle.store_file.specs.Stored.{store_value};
 
@@ -144,3 +145,9 @@ fn push_series(
     }
     Ok(())
 }
+
+/// Bytes decode exactly where they are those of a store, and then to that one.
+pub fn bytes_decode()
+    ensures read { ImageDecodes }
+    ensures written { DecodedIsImage }
+{}

@@ -13,7 +13,7 @@ mod tree_reading;
 mod trees;
 mod truth;
 
-pub use decoding::{StoreErr, decode};
+pub use decoding::{StoreErr, bytes_decode, decode};
 pub use header::{Entry, Fixed};
 pub use laws::{headers_keep, images_differ};
 pub use reading::{entry_len, read_entry, read_fixed};

@@ -13,6 +13,8 @@ mod trees;
 
 pub use adding::SeriesErr;
 pub use header::{Entry, Fixed};
-pub use laws::{adding_keeps_stores, headers_keep, images_differ, stores_have_facts};
+pub use laws::{
+    adding_keeps_stores, headers_keep, images_differ, room_is_enough, stores_have_facts,
+};
 pub use reading::{entry_len, read_entry, read_fixed};
 pub use store::{Store, Stored};

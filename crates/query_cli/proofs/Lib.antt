@@ -7,4 +7,6 @@ pub mod RowLaws
 pub mod ExpandLaws
 pub mod WorkedCuts
 pub mod ReplyTexts
+pub mod RoomLaws
+pub mod StepLaws
 pub mod SumLines

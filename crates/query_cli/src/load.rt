@@ -23,7 +23,7 @@ use crate::files::{MOST_CSV, MOST_STORE, read_file, replace_file};
 use crate::names::name_text;
 use crate::refusal::Stop;
 use crate::status::Status;
-use crate::stores::{add, bytes_of, find_room, store_of};
+use crate::stores::{add, bytes_of, find_room, scale_of, store_of};
 use crate::written::Written;
 use expr::Name;
 use outside::Shelf;
@@ -69,7 +69,7 @@ fn loaded(
 {
     let mut store = store_of(alloc, stored)?;
     find_room(alloc, &store, command.name)?;
-    let xs = readings_of(alloc, text, command.column, store.scale)?;
+    let xs = readings_of(alloc, text, command.column, scale_of(&store))?;
     match added(alloc, &mut store, command.name, &xs) {
         Ok(written) => Ok(written),
         Err(AllocError) => Err(Stop::Memory),

@@ -33,6 +33,14 @@ pub(crate) fn store_of(alloc: Global, bytes: &[u8]) -> Result<Store, Stop>
     }
 }
 
+/// How many decimal places of a cell the store keeps.
+pub(crate) fn scale_of(store: &Store) -> u8
+    ensures value { result ≡ (store_value store.now).scale }
+    ensures few { result ≤ 6 }
+{
+    store.scale
+}
+
 /// Refuses where the store has no room for a series of this name.
 pub(crate) fn find_room(alloc: Global, store: &Store, name: Name) -> Result<(), Stop>
     ensures ok { OnOk result (room_in (store_value store.now) name ≡ Ok (store_value store.now)) }
@@ -45,6 +53,7 @@ pub(crate) fn find_room(alloc: Global, store: &Store, name: Name) -> Result<(), 
 }
 
 /// Adds a series for which there is room.
+#[tactic(auto, using(crate::proofs::RoomLaws::never_refused))]
 pub(crate) fn add(store: &mut Store, name: Name, xs: &[i32]) -> Result<(), AllocError>
     requires room { room_in (store_value store.old) name ≡ Ok (store_value store.old) }
     requires few { length xs.now ≤ most_readings }
@@ -57,7 +66,13 @@ pub(crate) fn add(store: &mut Store, name: Name, xs: &[i32]) -> Result<(), Alloc
     match store.add_series(name, xs) {
         Ok(()) => Ok(()),
         Err(SeriesErr::Memory) => Err(AllocError),
-        Err(_) => unreachable!(),
+        Err(
+            SeriesErr::Exists
+            | SeriesErr::TooMany
+            | SeriesErr::Unknown
+            | SeriesErr::TooLong
+            | SeriesErr::ArenaFull,
+        ) => unreachable!(),
     }
 }
 

@@ -1,4 +1,5 @@
 pub mod Containment
+pub mod CountLaws
 pub mod NameTexts
 pub mod NodeLaws
 pub mod DescentLaws
@@ -6,6 +7,7 @@ pub mod PlaceLaws
 pub mod RowLaws
 pub mod ExpandLaws
 pub mod WorkedCuts
+pub mod ReplayLaws
 pub mod ReplyTexts
 pub mod RoomLaws
 pub mod StepLaws

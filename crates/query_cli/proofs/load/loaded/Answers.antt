@@ -1,4 +1,4 @@
-use Rattle.std.proofs.Common.{ap, ◌∙◌}
+use Rattle.std.proofs.Common.{refl, ◌∙◌}
 use Rattle.std.proofs.lemmas.Result.{err_from_is_err_and}
 use Rattle.store_file.specs.Stored.{store_value}
 use Rattle.query_cli.specs.Loads.{Loads}
@@ -21,6 +21,6 @@ returns-in-Ok-clause-ok c =
       stands = c.in_ok-store.ensures.stands;
       addable = rw (← c.deref.ensures.value) c.in-Ok.ensures.addable;
       column = column;
-      line_is = c.in-Ok.ensures.line ∙ ?;
-      bytes_are = c.in-Ok.ensures.bytes ∙ ?;
+      line_is = c.in-Ok.ensures.line ∙ rw c.deref.ensures.value refl;
+      bytes_are = c.in-Ok.ensures.bytes ∙ rw c.deref.ensures.value refl;
     }

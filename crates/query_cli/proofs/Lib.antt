@@ -1,4 +1,5 @@
 pub mod Containment
+pub mod CountLaws
 pub mod NameTexts
 pub mod NodeLaws
 pub mod NumberLaws
@@ -8,5 +9,8 @@ pub mod QueryLaws
 pub mod RowLaws
 pub mod ExpandLaws
 pub mod WorkedCuts
+pub mod ReplayLaws
 pub mod ReplyTexts
+pub mod RoomLaws
+pub mod StepLaws
 pub mod SumLines

@@ -1,10 +1,10 @@
 // The command `load`.
 
-ghost use Rattle.std.specs.Prelude.{◌≡◌, ◌≤◌, ◌^◌, length, Some, None, Ok, OnOk, OnErr, IfOk, IfErr, string_bytes};
+ghost use Rattle.std.specs.Prelude.{◌≡◌, ◌≤◌, length, Some, None, Ok, OnOk, OnErr, IfOk, IfErr, string_bytes};
 ghost use Rattle.segment.specs.Measure.{AreReadings};
 ghost use Rattle.semantics.specs.Faults.{Rose};
 ghost use Rattle.series_csv.specs.Column.{most_readings};
-ghost use Rattle.store_file.specs.Added.{IsAddable, with_series};
+ghost use Rattle.store_file.specs.Added.{HasRoom, IsAddable, with_series};
 ghost use Rattle.store_file.specs.StoreValue.{store_image};
 ghost use Rattle.store_file.specs.Stored.{store_value};
 ghost use Rattle.query_cli.specs.Answers.{loaded_in};
@@ -23,7 +23,7 @@ use crate::files::{MOST_CSV, MOST_STORE, read_file, replace_file};
 use crate::names::name_text;
 use crate::refusal::Stop;
 use crate::status::Status;
-use crate::stores::{add, bytes_of, find_room, store_of};
+use crate::stores::{add, bytes_of, find_room, scale_of, store_of};
 use crate::written::Written;
 use expr::Name;
 use outside::Shelf;
@@ -43,8 +43,7 @@ fn added(alloc: Global, store: &mut Store, name: Name, xs: &[i32]) -> Result<Wri
     requires room { room_in (store_value store.old) name ≡ Ok (store_value store.old) }
     requires few { length xs.now ≤ most_readings }
     requires small { AreReadings xs.now }
-    requires limit { store.old.arena.limit ≡ 2 ^ 24 }
-    requires nodes { length store.old.arena.nodes ≤ 2 ^ 21 }
+    requires nodes { HasRoom store.old }
     ensures line { IfOk result (λ w. string_bytes w.line ≡ loaded_line name (length xs.now)) }
     ensures bytes { IfOk result (λ w. w.bytes.items ≡ store_image (with_series (store_value store.old) name xs.now)) }
     ensures addable { OnOk result (IsAddable (store_value store.old) name xs.now) }
@@ -69,7 +68,7 @@ fn loaded(
 {
     let mut store = store_of(alloc, stored)?;
     find_room(alloc, &store, command.name)?;
-    let xs = readings_of(alloc, text, command.column, store.scale)?;
+    let xs = readings_of(alloc, text, command.column, scale_of(&store))?;
     match added(alloc, &mut store, command.name, &xs) {
         Ok(written) => Ok(written),
         Err(AllocError) => Err(Stop::Memory),

@@ -81,15 +81,25 @@ fn line_of_csv(alloc: Global, e: CsvErr) -> Result<String, AllocError>
     }
 }
 
+fn line_of_node(
+    alloc: Global,
+    name: &Name,
+    start: u32,
+    len: u32,
+) -> Result<String, AllocError>
+    ensures { IfOk result (λ t. string_bytes t ≡ store_line (StoreErr.BadNode name.now start len)) }
+{
+    let name = name_text(name);
+    let text = format!(in alloc; "store bad node {name} {start} {len}\n")?;
+    Ok(text)
+}
+
 fn line_of_store(alloc: Global, e: &StoreErr) -> Result<String, AllocError>
     ensures { IfOk result (λ t. string_bytes t ≡ store_line e.now) }
 {
     match e {
         StoreErr::NotAStore(place) => format!(in alloc; "store bad header {place}\n"),
-        StoreErr::BadNode(name, start, len) => {
-            let name = name_text(name);
-            format!(in alloc; "store bad node {name} {start} {len}\n")
-        }
+        StoreErr::BadNode(name, start, len) => line_of_node(alloc, name, *start, *len),
         StoreErr::Memory => Err(AllocError),
     }
 }

@@ -1,9 +1,9 @@
 // Stores, and their bytes.
 
-ghost use Rattle.std.specs.Prelude.{◌≡◌, ◌≤◌, ◌<◌, ◌^◌, length, Ok, OnOk, IfOk, IfErr};
+ghost use Rattle.std.specs.Prelude.{◌≡◌, ◌≤◌, length, Ok, OnOk, IfOk, IfErr};
 ghost use Rattle.segment.specs.Measure.{AreReadings};
 ghost use Rattle.series_csv.specs.Column.{most_readings};
-ghost use Rattle.store_file.specs.Added.{IsAddable, with_series};
+ghost use Rattle.store_file.specs.Added.{HasRoom, IsAddable, with_series};
 ghost use Rattle.store_file.specs.StoreValue.{IsStoreValue, store_image};
 ghost use Rattle.store_file.specs.Stored.{store_value};
 ghost use Rattle.query_cli.specs.Refusals.{IsOfRoom, IsOfStore};
@@ -23,14 +23,21 @@ pub(crate) fn store_of(alloc: Global, bytes: &[u8]) -> Result<Store, Stop>
     ensures refused { IfErr result (λ s. IfRefused s (IsStepRefusal IsOfStore (store_in bytes.now))) }
     ensures stands { IfOk result (λ s. store_image (store_value s) ≡ bytes.now) }
     ensures store { IfOk result (λ s. IsStoreValue (store_value s)) }
-    ensures limit { IfOk result (λ s. s.arena.limit ≡ 2 ^ 24) }
-    ensures nodes { IfOk result (λ s. length s.arena.nodes ≤ 2 ^ 21) }
+    ensures nodes { IfOk result HasRoom }
 {
     match decode(alloc, bytes) {
         Ok(store) => Ok(store),
         Err(StoreErr::Memory) => Err(Stop::Memory),
         Err(e) => Err(refuse(alloc, &Refusal::BadStore(e))),
     }
+}
+
+/// How many decimal places of a cell the store keeps.
+pub(crate) fn scale_of(store: &Store) -> u8
+    ensures value { result ≡ (store_value store.now).scale }
+    ensures few { result ≤ 6 }
+{
+    store.scale
 }
 
 /// Refuses where the store has no room for a series of this name.
@@ -45,19 +52,25 @@ pub(crate) fn find_room(alloc: Global, store: &Store, name: Name) -> Result<(), 
 }
 
 /// Adds a series for which there is room.
+#[tactic(auto, using(crate::proofs::RoomLaws::never_refused))]
 pub(crate) fn add(store: &mut Store, name: Name, xs: &[i32]) -> Result<(), AllocError>
     requires room { room_in (store_value store.old) name ≡ Ok (store_value store.old) }
     requires few { length xs.now ≤ most_readings }
     requires small { AreReadings xs.now }
-    requires limit { store.old.arena.limit ≡ 2 ^ 24 }
-    requires nodes { length store.old.arena.nodes ≤ 2 ^ 21 }
+    requires nodes { HasRoom store.old }
     ensures added { OnOk result (store_value store.new ≡ with_series (store_value store.old) name xs.now) }
     ensures addable { OnOk result (IsAddable (store_value store.old) name xs.now) }
 {
     match store.add_series(name, xs) {
         Ok(()) => Ok(()),
         Err(SeriesErr::Memory) => Err(AllocError),
-        Err(_) => unreachable!(),
+        Err(
+            SeriesErr::Exists
+            | SeriesErr::TooMany
+            | SeriesErr::Unknown
+            | SeriesErr::TooLong
+            | SeriesErr::ArenaFull,
+        ) => unreachable!(),
     }
 }
 

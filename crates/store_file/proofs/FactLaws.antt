@@ -1,5 +1,5 @@
 -- What is known of the series of a store.
-use Rattle.std.proofs.Common.{◌≡◌, ℕ, ◌+◌, ◌≤◌, ◌^◌, ◌<◌, true, eqb, ◌&&◌, if◌then◌else◌, List, [], ◌∷◌, ◌++◌, length, map, drop, slice_index, Option, Some, None, refl, sym, ap, ap₂, subst, ◌∙◌, arith, append_assoc, append-nil}
+use Rattle.std.proofs.Common.{◌≡◌, ℕ, ◌+◌, ◌≤◌, ◌^◌, true, eqb, List, [], ◌∷◌, ◌++◌, length, map, drop, slice_index, Option, Some, None, refl, sym, ap, subst, ◌∙◌, arith, append_assoc, append-nil}
 use Rattle.std.specs.List.{All}
 use Rattle.std.proofs.lemmas.Bool.Decides.{nat_tests}
 use Rattle.std.proofs.lemmas.List.{drop_all, length-map}
@@ -10,7 +10,7 @@ use Rattle.expr.specs.declared.facts.Fact.{Fact}
 use Rattle.segment.specs.declared.segments.Seg.{Seg}
 use Rattle.segment.specs.Measure.{AreReadings, spread}
 use Rattle.segment.specs.Nodes.{IsSeriesTree, find_seg, root_place, seg_at}
-use Rattle.segment.specs.Shape.{Range, plan}
+use Rattle.segment.specs.Shape.{plan}
 use Rattle.segment.specs.Tree.{SegTree, tip, node, all_readings, IsTreeOver, readings_of, root_of, segs_of}
 use Rattle.segment.proofs.Bounds.{spread-le}
 use Rattle.segment.proofs.PartLaws.{root-true, start-plan, span-plan}
@@ -21,7 +21,7 @@ use Rattle.seg_tree.specs.Trees.{IsTreeAt, IsTreeOf, value_at, value_of}
 use Rattle.seg_tree.specs.declared.nodes.Node.{Node}
 use Rattle.seg_tree.specs.declared.arena.Tree.{Tree}
 use Rattle.store_file.specs.Facts.{AreFacts, IsSmallFact, StoresHaveFacts, fact_in, fact_name, facts_in}
-use Rattle.store_file.specs.StoreValue.{AreNames, EachTree, IsStoreValue, Series, StoreValue, count_of, name_of}
+use Rattle.store_file.specs.StoreValue.{EachTree, Series, count_of, name_of}
 use Rattle.store_file.specs.Stored.{AreOf, IsSound, StoreParts, series_of, store_value}
 use Rattle.store_file.specs.declared.store.Stored.{Stored}
 use Rattle.store_file.proofs.StoredLaws.{count-tree, sound-value}

@@ -1,10 +1,10 @@
 -- The store for which bytes stand, or the first refusal.
-use Rattle.std.specs.Prelude.{ℕ, zero, suc, ◌+◌, ◌==◌, nat_lt, if◌then◌else◌, List, [], ◌∷◌, length, take, drop, Option, Some, None, Result, Ok, Err}
-use Rattle.std.specs.Option.{option_map}
-use Rattle.segment.specs.Shape.{Range, plan}
+use Rattle.std.specs.Prelude.{ℕ, zero, suc, ◌+◌, ◌^◌, ◌≤◌, ◌==◌, nat_lt, if◌then◌else◌, List, [], ◌∷◌, length, map, take, drop, Option, Some, None, Result, Ok, Err}
+use Rattle.std.specs.Option.{option_map, option_or}
+use Rattle.segment.specs.declared.segments.Seg.{Seg}
+use Rattle.segment.specs.Shape.{plan}
 use Rattle.segment.specs.Tree.{SegTree}
 use Rattle.tree_file.specs.Image.{tree_size, tree_in}
-use Rattle.tree_file.specs.Offsets.{first_of}
 use Rattle.store_file.specs.Good.{first_bad}
 use Rattle.store_file.specs.Header.{fixed_of, entry_of}
 use Rattle.store_file.specs.StoreValue.{Series, StoreValue, has_name}
@@ -14,6 +14,9 @@ use Rattle.store_file.specs.declared.decoding.StoreErr.{StoreErr}
 use Rattle.store_file.specs.declared.decoding.StoreErr.TheVariants.{NotAStore, BadNode}
 
 -- ---- the entries
+
+abbrev pub entry_name : Entry → List ℕ
+entry_name e = e.name
 
 -- how many bytes an entry has
 abbrev pub entry_size : Entry → ℕ
@@ -45,6 +48,13 @@ entries_in zero place seen bytes = Ok []
 entries_in (suc k) place seen bytes =
     with_entry place (λ e. entries_in k (place + entry_size e) (e.name ∷ seen) (drop (entry_size e) bytes)) (if_new seen (first_entry bytes))
 
+abbrev pub names_of : List Entry → List (List ℕ)
+names_of es = map entry_name es
+
+-- no entry has too many readings
+abbrev pub IsShort : Entry → Type 0
+IsShort e = e.n ≤ 2 ^ 20
+
 abbrev pub entries_size : List Entry → ℕ
 entries_size [] = 0
 entries_size (e ∷ es) = entry_size e + entries_size es
@@ -66,8 +76,8 @@ series_in [] bytes = []
 series_in (e ∷ es) bytes = record { name = e.name; tree = series_tree e.n bytes } ∷ series_in es (drop (tree_size e.n) bytes)
 
 -- the refusal of a node of a series
-abbrev pub bad_node : List ℕ → Range → StoreErr
-bad_node name r = BadNode name r.start r.len
+abbrev pub bad_node : List ℕ → Seg → StoreErr
+bad_node name g = BadNode name g.start g.len
 
 abbrev pub bad_in_tree : List ℕ → Option SegTree → Option StoreErr
 bad_in_tree name None = None
@@ -76,7 +86,7 @@ bad_in_tree name (Some t) = option_map (bad_node name) (first_bad t)
 -- the refusal of the first node that isn't true of its readings
 abbrev pub bad_in : List Series → Option StoreErr
 bad_in [] = None
-bad_in (s ∷ ss) = first_of (bad_in_tree s.name s.tree) (bad_in ss)
+bad_in (s ∷ ss) = option_or (bad_in_tree s.name s.tree) (bad_in ss)
 
 -- ---- the whole, step by step
 

@@ -1,8 +1,12 @@
-pub mod Decoded
-pub mod Good
 pub mod Added
 pub mod Facts
 pub mod Header
+pub mod Decoded
+pub mod Good
+pub mod Header
+pub mod Laws
 pub mod Parts
+pub mod Restored
 pub mod StoreValue
 pub mod Stored
+pub mod Worked

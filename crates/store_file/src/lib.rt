@@ -1,8 +1,9 @@
 //! A store of series, and its bytes.
 #![tactic(auto)]
 
-mod decoding;
 mod adding;
+mod decoding;
+mod entry_reading;
 mod facts;
 mod header;
 mod laws;
@@ -10,11 +11,16 @@ mod reading;
 mod store;
 #[cfg(test)]
 mod tests;
+mod tree_reading;
 mod trees;
+mod truth;
 
-pub use decoding::{StoreErr, decode};
 pub use adding::SeriesErr;
+pub use decoding::{StoreErr, bytes_decode, decode};
 pub use header::{Entry, Fixed};
-pub use laws::{adding_keeps_stores, headers_keep, images_differ, stores_have_facts};
+pub use laws::{
+    adding_keeps_stores, headers_keep, images_differ, room_is_enough, small_stores_have_bytes,
+    stores_have_facts,
+};
 pub use reading::{entry_len, read_entry, read_fixed};
 pub use store::{Store, Stored};

@@ -10,7 +10,7 @@ use Rattle.expr_parse.specs.declared.error.ParseErr.{ParseErr}
 use Rattle.expr_parse.specs.declared.error.ParseErr.TheVariants as text
 use Rattle.store_file.specs.Facts.{facts_in}
 use Rattle.store_file.specs.StoreValue.{StoreValue}
-use Rattle.query_cli.specs.Answers.{refusal_of}
+use Rattle.query_cli.specs.Answers.{IsCalled, refusal_of}
 use Rattle.query_cli.specs.Causes.{IsCause, IsDone}
 use Rattle.query_cli.specs.Commands.{QueryCommand, query}
 use Rattle.query_cli.specs.Lines.{answer_line}
@@ -20,8 +20,8 @@ use Rattle.query_cli.specs.Refusals.{Refusal, bad_query, query_refusal, range, r
 use Rattle.query_cli.specs.Steps.{and_then, file_in, most_store, refused_as, unless_refused}
 use Rattle.query_cli.specs.Stops.{IfRefused, IsStepRefusal, IsUnread}
 use Rattle.query_cli.specs.declared.refusal.Stop.{Stop}
-use Rattle.query_cli.specs.declared.refusal.Stop.TheVariants as stop
 use Rattle.query_cli.proofs.NumberLaws.{refusal_same, value_same}
+use Rattle.query_cli.proofs.StepLaws.{refused-map}
 
 -- ---- over the bytes of the store
 
@@ -65,19 +65,14 @@ pub answered_in : (q : QueryTerm) (bytes : List ℕ) (m : StoreValue) (budget : 
 answered_in q bytes m budget line v known a e =
     (record { store = m; query = q }, ap (λ r. and_then r (λ k. admitted_in q k)) known ∙ a.admitted, value_line (record { store = m; query = q }) budget line v a.value_is e)
 
--- a fact of a refusal that follows from another
-refused_from : (s : Stop) (P Q : Refusal → Type 0) → ((r : Refusal) → P r → Q r) → IfRefused s P → IfRefused s Q
-refused_from stop.Memory P Q f h = tt
-refused_from (stop.Refused reply) P Q f h = (h.0, f h.0 h.1, h.2)
-
 pub no_store : (q : QueryTerm) (bytes : List ℕ) (s : Stop) → IfRefused s (IsStepRefusal (λ r. r ≡ store_fault) (known_store_in bytes)) → IfRefused s (IsStepRefusal IsOfAsked (asked_in q bytes))
 no_store q bytes s h =
-    refused_from s (IsStepRefusal (λ r. r ≡ store_fault) (known_store_in bytes)) (IsStepRefusal IsOfAsked (asked_in q bytes))
+    refused-map s (IsStepRefusal (λ r. r ≡ store_fault) (known_store_in bytes)) (IsStepRefusal IsOfAsked (asked_in q bytes))
     (λ r k. record { possible = inl k.possible; called = ap (λ x. and_then x (λ m. admitted_in q m)) k.called }) h
 
 pub no_answer : (q : QueryTerm) (bytes : List ℕ) (m : StoreValue) (s : Stop) → known_store_in bytes ≡ Ok m → IfRefused s (λ r. (k : StoreValue) → IsStepRefusal IsOfAdmission (admitted_in q k) r) → IfRefused s (IsStepRefusal IsOfAsked (asked_in q bytes))
 no_answer q bytes m s known h =
-    refused_from s (λ r. (k : StoreValue) → IsStepRefusal IsOfAdmission (admitted_in q k) r) (IsStepRefusal IsOfAsked (asked_in q bytes))
+    refused-map s (λ r. (k : StoreValue) → IsStepRefusal IsOfAdmission (admitted_in q k) r) (IsStepRefusal IsOfAsked (asked_in q bytes))
     (λ r k. record { possible = inr (k m).possible; called = ap (λ x. and_then x (λ n. admitted_in q n)) known ∙ (k m).called }) h
 
 -- ---- over the files
@@ -89,7 +84,7 @@ told_text c (Some m) e is = ap (λ a. result_err (and_then (refused_as bad_query
 
 pub bad_text : (c : QueryCommand) (files : Option Files) (e : ParseErr) (s : Stop) → c.asked ≡ Err e → e ≢ text.Memory → IfRefused s (λ r. r ≡ bad_query e) → IfRefused s (IsCause files (Some (query c)))
 bad_text c files e s is some h =
-    refused_from s (λ r. r ≡ bad_query e) (IsCause files (Some (query c)))
+    refused-map s (λ r. r ≡ bad_query e) (IsCause files (Some (query c)))
     (λ r k. record { possible = inl (e, some, k); called = inr (inr (told files (told_text c files e is) r k)) }) h
   where
     told : (o : Option Files) → IfTold o (λ m. refusal_of m (Some (query c)) ≡ Some (bad_query e)) → (r : Refusal) → r ≡ bad_query e → IfTold o (λ m. refusal_of m (Some (query c)) ≡ Some r)
@@ -104,21 +99,21 @@ by_bytes c q m bytes is held = by_file c q m is ∙ ap (λ r. and_then r (λ b. 
 
 pub unread : (c : QueryCommand) (q : QueryTerm) (files : Option Files) (s : Stop) → c.asked ≡ Ok q → IfRefused s (IsUnread files most_store c.store) → IfRefused s (IsCause files (Some (query c)))
 unread c q files s is h =
-    refused_from s (IsUnread files most_store c.store) (IsCause files (Some (query c)))
+    refused-map s (IsUnread files most_store c.store) (IsCause files (Some (query c)))
     (λ r k. record { possible = inr (inl k.possible); called = called r k.called }) h
   where
     told : (o : Option Files) (r : Refusal) → IfTold o (λ m. file_in m most_store c.store ≡ Err r) → IfTold o (λ m. refusal_of m (Some (query c)) ≡ Some r)
     told None r t = tt
     told (Some m) r t = ap result_err (by_file c q m is ∙ ap (λ x. and_then x (λ b. asked_in q b)) t)
 
-    called : (r : Refusal) → (r ≡ read_fault) ⊎ IfTold files (λ m. file_in m most_store c.store ≡ Err r) → _
+    called : (r : Refusal) → (r ≡ read_fault) ⊎ IfTold files (λ m. file_in m most_store c.store ≡ Err r) → IsCalled files (Some (query c)) r
     called r (inl fault) = inl fault
     called r (inr t) = inr (inr (told files r t))
 
 pub not_answered : (c : QueryCommand) (q : QueryTerm) (files : Option Files) (bytes : List ℕ) (s : Stop) → c.asked ≡ Ok q → IfTold files (λ m. file_in m most_store c.store ≡ Ok bytes)
     → IfRefused s (IsStepRefusal IsOfAsked (asked_in q bytes)) → IfRefused s (IsCause files (Some (query c)))
 not_answered c q files bytes s is held h =
-    refused_from s (IsStepRefusal IsOfAsked (asked_in q bytes)) (IsCause files (Some (query c)))
+    refused-map s (IsStepRefusal IsOfAsked (asked_in q bytes)) (IsCause files (Some (query c)))
     (λ r k. record { possible = inr (inr k.possible); called = inr (inr (told files held r k.called)) }) h
   where
     told : (o : Option Files) → IfTold o (λ m. file_in m most_store c.store ≡ Ok bytes) → (r : Refusal) → asked_in q bytes ≡ Err r → IfTold o (λ m. refusal_of m (Some (query c)) ≡ Some r)
@@ -132,3 +127,9 @@ answered c q None now bytes line asked is held found value same =
 answered c q (Some m) now bytes line asked is held found value same =
     let all : asked_by c m ≡ Ok asked = by_bytes c q m bytes is held ∙ found in
     record { answer = record { asked = asked; found = all; value = value }; accepted = ap result_err all; files = same; replayed = tt }
+
+pub all_not_admitted : (q : QueryTerm) (node : ℕ) (s : Stop) → is_of_numbers q ≡ true → number_refusal 1 q ≡ Some (admission.too_great node) → IfRefused s (λ r. r ≡ range node)
+    → IfRefused s (λ r. (m : StoreValue) → IsStepRefusal IsOfAdmission (admitted_in q m) r)
+all_not_admitted q node s numbers found h =
+    refused-map s (λ r. r ≡ range node) (λ r. (m : StoreValue) → IsStepRefusal IsOfAdmission (admitted_in q m) r)
+    (λ r is. not_admitted q node r numbers found is) h

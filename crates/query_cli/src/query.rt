@@ -8,7 +8,6 @@ ghost use Rattle.store_file.specs.StoreValue.{StoreValue};
 ghost use Rattle.store_file.specs.Stored.{store_value};
 ghost use Rattle.query_cli.specs.Causes.{IsCause, IsDone};
 ghost use Rattle.query_cli.specs.Commands.{query};
-ghost use Rattle.query_cli.specs.Lines.{answer_line};
 ghost use Rattle.query_cli.specs.Numbers.{is_of_numbers};
 ghost use Rattle.query_cli.specs.QueryAnswers.{Asked, IsAdmittedValue, IsValueLine, admitted_in, asked_in, known_store_in};
 ghost use Rattle.query_cli.specs.Refusals.{IsOfAdmission, IsOfAsked, store_fault};
@@ -17,10 +16,12 @@ ghost use Rattle.query_cli.specs.Stops.{IfRefused, IsStepRefusal, stop_status};
 ghost use Rattle.query_cli.specs.Views.{query_view};
 
 use crate::command;
+use crate::descent::Answer;
 use crate::files::{MOST_STORE, read_file};
 use crate::refusal::{Refusal, Stop, refuse};
 use crate::status::Status;
 use crate::numbers::evaluate;
+use crate::once::line_of;
 use expr::Query;
 use outside::Shelf;
 use std::alloc::{AllocError, Global};
@@ -52,12 +53,17 @@ fn admitted(alloc: Global, q: &Query) -> Result<i128, Stop>
     }
 }
 
-// The line of one number.
-fn line_of(alloc: Global, value: i128) -> Result<String, AllocError>
-    ensures { IfOk result (λ t. string_bytes t ≡ answer_line value value 0 0 0) }
+// The interval of one number, for which no node is used.
+fn exactly(value: i128) -> Answer
+    ensures { result ≡ record { lo = value; hi = value; width = 0; nodes = 0; opened = 0 } }
 {
-    let text = format!(in alloc; "{value} {value} 0 0 0\n")?;
-    Ok(text)
+    Answer {
+        lo: value,
+        hi: value,
+        width: 0,
+        nodes: 0,
+        opened: 0,
+    }
 }
 
 // The line of the query over the bytes of the store.
@@ -70,7 +76,7 @@ fn answer_in_store(alloc: Global, q: &Query, budget: u128, bytes: &[u8]) -> Resu
 {
     known_store(alloc, bytes)?;
     let value = admitted(alloc, q)?;
-    match line_of(alloc, value) {
+    match line_of(alloc, &exactly(value)) {
         Ok(line) => Ok(line),
         Err(AllocError) => Err(Stop::Memory),
     }

@@ -1,3 +1,5 @@
+pub mod AddedLaws
+pub mod FactLaws
 pub mod HeaderLaws
 pub mod ImageLaws
 pub mod StoredLaws

@@ -1,3 +1,5 @@
+pub mod Added
+pub mod Facts
 pub mod Header
 pub mod StoreValue
 pub mod Stored

@@ -1,3 +1,5 @@
+ghost use Rattle.store_file.specs.Added.{AddingKeepsStores};
+ghost use Rattle.store_file.specs.Facts.{StoresHaveFacts};
 ghost use Rattle.store_file.specs.Header.{FixedReadsBack, EntryReadsBack};
 ghost use Rattle.store_file.specs.StoreValue.{ImagesDiffer};
 ghost use Rattle.store_file.specs.Worked.{OneReadingIs, TurnsAre};
@@ -17,4 +19,14 @@ pub fn headers_keep()
 pub fn small_stores_have_bytes()
     ensures one { OneReadingIs }
     ensures turns { TurnsAre }
+{}
+
+/// A store with one more series, where it may have one, is a store again.
+pub fn adding_keeps_stores()
+    ensures { AddingKeepsStores }
+{}
+
+/// The facts of a store are few, small, and of names that differ.
+pub fn stores_have_facts()
+    ensures { StoresHaveFacts }
 {}

@@ -1,6 +1,8 @@
 //! A store of series, and its bytes.
 #![tactic(auto)]
 
+mod adding;
+mod facts;
 mod header;
 mod laws;
 mod reading;
@@ -9,7 +11,10 @@ mod store;
 mod tests;
 mod trees;
 
+pub use adding::SeriesErr;
 pub use header::{Entry, Fixed};
-pub use laws::{headers_keep, images_differ, small_stores_have_bytes};
+pub use laws::{
+    adding_keeps_stores, headers_keep, images_differ, small_stores_have_bytes, stores_have_facts,
+};
 pub use reading::{entry_len, read_entry, read_fixed};
 pub use store::{Store, Stored};

@@ -374,3 +374,40 @@ image-decode bytes m are e =
     (image_of bytes f es are room (fixed-written (take 8 bytes) f (length-take-le 8 bytes room) fixed)
     (entries-written f.count 8 [] (drop 8 bytes) es (drop_bytes 8 bytes are) header)
     ((Decides-eqb (length bytes) (header_size es + trees_size es)).0 len) good)
+
+-- ---- step by step, as it is read
+
+below : (a b : ℕ) → a < b → nat_lt a b ≡ true
+below a b h = grind (arith, nat_tests)
+
+pub decode-short : (bytes : List ℕ) → length bytes < 8 → decode_of bytes ≡ Err (NotAStore 0)
+unfolding decode_of
+decode-short bytes short = ap (λ b. if b then Err (NotAStore 0) else by_fixed bytes (fixed_of (take 8 bytes))) (below (length bytes) 8 short)
+
+decode-long : (bytes : List ℕ) → 8 ≤ length bytes → decode_of bytes ≡ by_fixed bytes (fixed_of (take 8 bytes))
+unfolding decode_of
+decode-long bytes long = ap (λ b. if b then Err (NotAStore 0) else by_fixed bytes (fixed_of (take 8 bytes))) (not_below (length bytes) 8 long)
+
+pub decode-unfixed : (bytes : List ℕ) (place : ℕ) → 8 ≤ length bytes → fixed_of (take 8 bytes) ≡ Err place → decode_of bytes ≡ Err (NotAStore place)
+decode-unfixed bytes place long e = decode-long bytes long ∙ ap (by_fixed bytes) e
+
+pub decode-fixed : (bytes : List ℕ) (f : Fixed) → 8 ≤ length bytes → fixed_of (take 8 bytes) ≡ Ok f → decode_of bytes ≡ by_entries bytes f (entries_in f.count 8 [] (drop 8 bytes))
+decode-fixed bytes f long e = decode-long bytes long ∙ ap (by_fixed bytes) e
+
+pub decode-refused : (bytes : List ℕ) (f : Fixed) (place : ℕ) → 8 ≤ length bytes → fixed_of (take 8 bytes) ≡ Ok f → entries_in f.count 8 [] (drop 8 bytes) ≡ Err place → decode_of bytes ≡ Err (NotAStore place)
+decode-refused bytes f place long fixed e = decode-fixed bytes f long fixed ∙ ap (by_entries bytes f) e
+
+pub decode-entries : (bytes : List ℕ) (f : Fixed) (es : List Entry) → 8 ≤ length bytes → fixed_of (take 8 bytes) ≡ Ok f → entries_in f.count 8 [] (drop 8 bytes) ≡ Ok es → length bytes ≡ header_size es + trees_size es
+    → decode_of bytes ≡ by_series f (series_in es (drop (header_size es) bytes))
+decode-entries bytes f es long fixed header len =
+    decode-fixed bytes f long fixed ∙ ap (by_entries bytes f) header
+    ∙ ap (λ b. if b then by_series f (series_in es (drop (header_size es) bytes)) else Err (NotAStore (header_size es))) ((Decides-eqb (length bytes) (header_size es + trees_size es)).1 len)
+
+differs : (a b : ℕ) → (a ≡ b → ⊥) → (a == b) ≡ false
+differs a b h = grind (arith, nat_tests)
+
+pub decode-length : (bytes : List ℕ) (f : Fixed) (es : List Entry) → 8 ≤ length bytes → fixed_of (take 8 bytes) ≡ Ok f → entries_in f.count 8 [] (drop 8 bytes) ≡ Ok es → (length bytes ≡ header_size es + trees_size es → ⊥)
+    → decode_of bytes ≡ Err (NotAStore (header_size es))
+decode-length bytes f es long fixed header other =
+    decode-fixed bytes f long fixed ∙ ap (by_entries bytes f) header
+    ∙ ap (λ b. if b then by_series f (series_in es (drop (header_size es) bytes)) else Err (NotAStore (header_size es))) (differs (length bytes) (header_size es + trees_size es) other)

@@ -1,8 +1,9 @@
-ghost use Rattle.std.specs.Prelude.{◌≡◌, ◌⊎◌, ◌^◌, ◌≤◌, length, take, [], Ok, Err, Some, IfOk, OnOk, IfErr, MatchResult};
+ghost use Rattle.std.specs.Prelude.{◌≡◌, ◌⊎◌, ◌^◌, ◌≤◌, length, take, [], ◌∷◌, ◌++◌, false, Ok, Err, Some, IfOk, OnOk, IfErr, MatchResult};
 ghost use Rattle.std.specs.List.{All};
+ghost use Rattle.std.specs.Map.{keys_of};
 ghost use Rattle.store_file.specs.Decoded.{IsShort, bad_in, by_series, decode_of, names_of, series_in, trees_size};
 ghost use Rattle.store_file.specs.Header.{fixed_of};
-ghost use Rattle.store_file.specs.StoreValue.{AreNames, StoreValue, IsStoreValue, store_image};
+ghost use Rattle.store_file.specs.StoreValue.{AreNames, StoreValue, has_name, IsStoreValue, store_image};
 ghost use Rattle.store_file.specs.Laws.{ImageDecodes, DecodedIsImage};
 ghost use Rattle.store_file.specs.Restored.{HoldsSeries};
 ghost use Rattle.store_file.specs.Stored.{store_value};
@@ -12,7 +13,7 @@ use crate::tree_reading::read_tree;
 use crate::{Entry, Fixed, Store, Stored, read_fixed};
 use expr::Name;
 use indexmap::IndexMap;
-use seg_tree::Arena;
+use seg_tree::{Arena, Tree};
 use std::alloc::Global;
 use tree_file::tree_bytes;
 
@@ -135,15 +136,28 @@ fn push_series(
 {
     let mut place = 0;
     for i in 0..entries.len() {
-        let entry = entries[i];
-        let tree = read_tree(alloc, entry, &bytes[place..], arena)?;
-        match series.insert(entry.name, Stored { tree }) {
-            Ok(_) => {}
-            Err(_) => return Err(StoreErr::Memory),
-        }
-        place += tree_bytes(entry.n) as usize;
+        let Entry { name, n } = entries[i];
+        let tree = read_tree(alloc, name, n, &bytes[place..], arena)?;
+        add_last(series, name, tree)?;
+        place += tree_bytes(n) as usize;
     }
     Ok(())
+}
+
+/// Adds a series, last.
+fn add_last(
+    series: &mut IndexMap<Name, Stored>,
+    name: Name,
+    tree: Tree,
+) -> Result<(), StoreErr>
+    requires { has_name (keys_of series.old.entries) name ≡ false }
+    ensures ok { OnOk result (series.new.entries ≡ series.old.entries ++ (name, record { tree = tree }) ∷ []) }
+    ensures err { IfErr result (λ e. e ≡ StoreErr.Memory) }
+{
+    match series.insert(name, Stored { tree }) {
+        Ok(_) => Ok(()),
+        Err(_) => Err(StoreErr::Memory),
+    }
 }
 
 /// Bytes decode exactly where they are those of a store, and then to that one.

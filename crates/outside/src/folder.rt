@@ -2,7 +2,9 @@
 
 ghost use Rattle.std.specs.Prelude.{◌≡◌, ◌≤◌, length};
 
-use crate::shelves::{FetchErr, Fetched, Shelf};
+use crate::shelves::{FetchErr, Fetched, ReplaceErr, Shelf};
+use crate::whole_pieces::write_whole;
+use std::alloc::Global;
 use std::fs;
 use std::io::{ErrorKind, Read};
 use std::rt::Files;
@@ -10,14 +12,16 @@ use std::rt::Files;
 /// The files of the current folder. It tells none of them, and counts each error of the system.
 #[derive(Drop)]
 pub struct DirShelf<'a, R: Files> {
+    alloc: Global,
     rt: &'a R,
     read_faults: u64,
     replace_faults: u64,
 }
 
 impl<'a, R: Files> DirShelf<'a, R> {
-    pub fn new(rt: &'a R) -> DirShelf<'a, R> {
+    pub fn new(alloc: Global, rt: &'a R) -> DirShelf<'a, R> {
         DirShelf {
+            alloc,
             rt,
             read_faults: 0,
             replace_faults: 0,
@@ -77,6 +81,31 @@ fn read_file<R: Files>(
     }
 }
 
+// Makes a file of these bytes, or says false at a fault.
+fn write_file<R: Files>(rt: &R, name: &str, bytes: &[u8]) -> bool {
+    match fs::create(rt, name) {
+        Ok(mut file) => write_whole(&mut file, bytes),
+        Err(_) => false,
+    }
+}
+
+// Writes the file NAME.new and renames it over NAME.
+fn replace_file<R: Files>(
+    alloc: Global,
+    rt: &R,
+    name: &str,
+    bytes: &[u8],
+) -> Result<(), ReplaceErr> {
+    let Ok(fresh) = format!(in alloc; "{name}.new") else {
+        return Err(ReplaceErr::Memory);
+    };
+    if write_file(rt, fresh.as_str(), bytes) && fs::rename(rt, fresh.as_str(), name).is_ok() {
+        Ok(())
+    } else {
+        Err(ReplaceErr::Failed)
+    }
+}
+
 impl<'a, R: Files> Shelf for DirShelf<'a, R> {
     ghost use Rattle.std.specs.Prelude.{None};
 
@@ -90,6 +119,14 @@ impl<'a, R: Files> Shelf for DirShelf<'a, R> {
         let answer = read_file(self.rt, name, limit, into);
         if answer == Err(FetchErr::Failed) {
             self.read_faults = self.read_faults.saturating_add(1);
+        }
+        answer
+    }
+
+    fn replace(&mut self, name: &str, bytes: &[u8]) -> Result<(), ReplaceErr> {
+        let answer = replace_file(self.alloc, self.rt, name, bytes);
+        if answer == Err(ReplaceErr::Failed) {
+            self.replace_faults = self.replace_faults.saturating_add(1);
         }
         answer
     }

@@ -12,13 +12,14 @@ mod memory_shelf;
 mod output;
 mod shelves;
 mod standard_output;
+mod whole_pieces;
 
 pub use file_bytes::Bytes;
 pub use folder::DirShelf;
 pub use memory_out::MemOut;
 pub use memory_shelf::MemShelf;
 pub use output::{Out, PutErr};
-pub use shelves::{Failed, FetchErr, Fetched, Shelf};
+pub use shelves::{Failed, FetchErr, Fetched, ReplaceErr, Shelf};
 pub use standard_output::StdOut;
 
 #[cfg(test)]

@@ -1,15 +1,15 @@
 // A shelf in memory.
 
-ghost use Rattle.std.specs.Prelude.{◌≡◌, ◌≤◌, ◌↔◌, IsTrue, IfErr, IfOk, OnOk, Some, length, option_copied};
+ghost use Rattle.std.specs.Prelude.{◌≡◌, ◌≤◌, ◌↔◌, IsTrue, IfErr, IfOk, None, OnErr, OnOk, Some, length, option_copied};
 ghost use Rattle.semantics.specs.Faults.{Rose};
-ghost use Rattle.semantics.specs.Files.{IfTold, file_of};
+ghost use Rattle.semantics.specs.Files.{file_of, with_file};
 ghost use Rattle.outside.specs.Calls.{calls_after, fails_next};
 ghost use Rattle.outside.specs.Fetching.{IsFetched};
 ghost use Rattle.outside.specs.MapFiles.{files_of};
 
 use crate::failing_calls::fails_next;
 use crate::file_bytes::Bytes;
-use crate::shelves::{FetchErr, Fetched, Shelf};
+use crate::shelves::{FetchErr, Fetched, ReplaceErr, Shelf};
 use std::alloc::Global;
 use std::collections::BTreeMap;
 
@@ -75,6 +75,29 @@ fn fill(into: &mut Vec<u8>, held: &[u8]) -> Result<(), FetchErr>
     }
 }
 
+// Writes a file anew, or leaves all as they are.
+fn put(
+    alloc: Global,
+    files: &mut BTreeMap<String, Bytes>,
+    name: &str,
+    bytes: &[u8],
+) -> Result<(), ReplaceErr>
+    ensures ok { OnOk result (files_of files.new ≡ with_file (files_of files.old) name.now bytes.now) }
+    ensures stay { OnErr result (files_of files.new ≡ files_of files.old) }
+    ensures err { IfErr result (λ e. e ≡ ReplaceErr.Memory) }
+{
+    let Ok(name) = String::from_str(alloc, name) else {
+        return Err(ReplaceErr::Memory);
+    };
+    let Ok(held) = Vec::from_slice(alloc, bytes) else {
+        return Err(ReplaceErr::Memory);
+    };
+    match files.insert(name, Bytes::of(held)) {
+        Ok(_) => Ok(()),
+        Err(_) => Err(ReplaceErr::Memory),
+    }
+}
+
 impl Shelf for MemShelf {
     ghost use Rattle.outside.specs.MemShelves.{failing_reads, failing_replaces, files_in, read_faults_of, reads_made, replace_faults_of, replaces_made};
 
@@ -115,5 +138,30 @@ impl Shelf for MemShelf {
         }
         fill(into, held)?;
         Ok(Fetched::Whole)
+    }
+
+    #[tactic(auto, using(crate::proofs::CallLaws::faults_stay, crate::proofs::CallLaws::fault_rises))]
+    fn replace(&mut self, name: &str, bytes: &[u8]) -> Result<(), ReplaceErr>
+        ensures replaced { OnOk result (files_in self.new ≡ with_file (files_in self.old) name.now bytes.now) }
+        ensures refused { OnErr result (files_in self.new ≡ files_in self.old) }
+
+        // It fails exactly where its number is listed.
+        ensures fails { (result ≡ Err ReplaceErr.Failed) ↔ IsTrue (fails_next (failing_replaces self.old) (replaces_made self.old)) }
+        ensures failed { result ≡ Err ReplaceErr.Failed → Rose (replace_faults_of self.old) (replace_faults_of self.new) }
+        ensures replace_faults_stay { replace_faults_of self.old ≤ replace_faults_of self.new }
+        ensures read_faults_stay { read_faults_of self.new ≡ read_faults_of self.old }
+
+        // One more replacing call is made.
+        ensures replaces { replaces_made self.new ≡ calls_after (replaces_made self.old) }
+        ensures reads_stay { reads_made self.new ≡ reads_made self.old }
+        ensures listed_reads_stay { failing_reads self.new ≡ failing_reads self.old }
+        ensures listed_replaces_stay { failing_replaces self.new ≡ failing_replaces self.old }
+    {
+        let fails = fails_next(&self.fail_replaces, self.replaces);
+        self.replaces = self.replaces.saturating_add(1);
+        if fails {
+            return Err(ReplaceErr::Failed);
+        }
+        put(self.alloc, &mut self.files, name, bytes)
     }
 }

@@ -1,8 +1,8 @@
 // A shelf of files.
 
-ghost use Rattle.std.specs.Prelude.{◌≡◌, ◌≤◌, ℕ, IfOk, Option, length};
+ghost use Rattle.std.specs.Prelude.{◌≡◌, ◌≤◌, ℕ, IfOk, None, OnErr, OnOk, Option, Some, length};
 ghost use Rattle.semantics.specs.Faults.{Rose};
-ghost use Rattle.semantics.specs.Files.{Files, IfTold, file_of};
+ghost use Rattle.semantics.specs.Files.{Files, IfTold, file_of, with_file};
 ghost use Rattle.outside.specs.Fetching.{IsFetched};
 
 /// A call of the system that failed.
@@ -20,6 +20,13 @@ pub enum Fetched {
 /// Why a fetch found nothing out.
 #[derive(Clone, Copy, Debug, PartialEq, Eq)]
 pub enum FetchErr {
+    Failed,
+    Memory,
+}
+
+/// Why a file was not written anew.
+#[derive(Clone, Copy, Debug, PartialEq, Eq)]
+pub enum ReplaceErr {
     Failed,
     Memory,
 }
@@ -43,4 +50,13 @@ pub trait Shelf {
         ensures failed { result ≡ Err FetchErr.Failed → Rose (read_faults self.old) (read_faults self.new) }
         ensures read_faults_stay { read_faults self.old ≤ read_faults self.new }
         ensures replace_faults_stay { replace_faults self.new ≡ replace_faults self.old };
+
+    /// Writes a file anew, whatever stood there. After a refusal the files are as before.
+    fn replace(&mut self, name: &str, bytes: &[u8]) -> Result<(), ReplaceErr>
+        ensures replaced { IfTold (files self.old) (λ m. OnOk result (files self.new ≡ Some (with_file m name.now bytes.now))) }
+        ensures untold_stay { files self.old ≡ None → files self.new ≡ None }
+        ensures refused { OnErr result (files self.new ≡ files self.old) }
+        ensures failed { result ≡ Err ReplaceErr.Failed → Rose (replace_faults self.old) (replace_faults self.new) }
+        ensures replace_faults_stay { replace_faults self.old ≤ replace_faults self.new }
+        ensures read_faults_stay { read_faults self.new ≡ read_faults self.old };
 }

@@ -1,7 +1,8 @@
 // Standard output.
 
 use crate::output::{Out, PutErr};
-use std::io::{self, Write};
+use crate::whole_pieces::write_whole;
+use std::io;
 
 /// Standard output. It tells no bytes, and counts each error of the system and each write that takes nothing.
 #[derive(Drop)]
@@ -16,18 +17,6 @@ impl<'a, P: Print> StdOut<'a, P> {
     }
 }
 
-// Writes the whole piece, or says false at a fault.
-fn write_whole<P: Print>(to: &P, piece: &[u8]) -> bool {
-    let mut done = 0;
-    while done < piece.len() {
-        match io::writer(to).write(&piece[done..]) {
-            Ok(0) | Err(_) => return false,
-            Ok(count) => done += count,
-        }
-    }
-    true
-}
-
 impl<'a, P: Print> Out for StdOut<'a, P> {
     ghost use Rattle.std.specs.Prelude.{None};
 
@@ -36,7 +25,7 @@ impl<'a, P: Print> Out for StdOut<'a, P> {
     ghost write_faults = { λ o. o.faults };
 
     fn put(&mut self, piece: &[u8]) -> Result<(), PutErr> {
-        if write_whole(self.to, piece) {
+        if write_whole(&mut io::writer(self.to), piece) {
             Ok(())
         } else {
             self.faults = self.faults.saturating_add(1);

@@ -1,4 +1,6 @@
-use crate::{Bytes, DirShelf, FetchErr, Fetched, MemOut, MemShelf, Out, PutErr, Shelf, StdOut};
+use crate::{
+    Bytes, DirShelf, FetchErr, Fetched, MemOut, MemShelf, Out, PutErr, ReplaceErr, Shelf, StdOut,
+};
 use std::collections::BTreeMap;
 use std::fs;
 use std::test::Fail;
@@ -10,7 +12,8 @@ fn in_memory(rt: HostRuntime) -> Result<(), Fail> {
     let bytes = Vec::from_slice(alloc, b"abc")?;
     files.insert(String::from_str(alloc, "a")?, Bytes::of(bytes))?;
     let fail_reads = Vec::from_slice(alloc, &[2, 5, 2])?;
-    let mut shelf = MemShelf::new(alloc, files, fail_reads, Vec::new(alloc));
+    let fail_replaces = Vec::from_slice(alloc, &[2])?;
+    let mut shelf = MemShelf::new(alloc, files, fail_reads, fail_replaces);
     let mut into = Vec::new(alloc);
     for (name, limit, want, text) in [
         ("a", 3, Ok(Fetched::Whole), "abc"),
@@ -24,8 +27,16 @@ fn in_memory(rt: HostRuntime) -> Result<(), Fail> {
         assert!(rt; got == want);
         assert!(rt; got != Ok(Fetched::Whole) || into.as_slice() == text.as_bytes());
     }
-    assert!(rt; shelf.file("a") == Some(b"abc"));
-    assert!(rt; shelf.file("b") == None);
+    for (name, bytes, want, a, b) in [
+        ("b", "de", Ok(()), "abc", "de"),
+        ("a", "f", Err(ReplaceErr::Failed), "abc", "de"),
+        ("a", "f", Ok(()), "f", "de"),
+    ] {
+        assert!(rt; shelf.replace(name, bytes.as_bytes()) == want);
+        assert!(rt; shelf.file("a") == Some(a.as_bytes()));
+        assert!(rt; shelf.file("b") == Some(b.as_bytes()));
+    }
+    assert!(rt; shelf.file("c") == None);
 
     let mut out = MemOut::new(alloc, Vec::from_slice(alloc, &[(2, 1), (2, 9), (3, 9)])?);
     for (piece, want, text) in [
@@ -48,7 +59,7 @@ fn in_a_folder(rt: HostRuntime) -> Result<(), Fail> {
         long.push(b'x')?;
     }
     fs::write(&rt, "outside_test.txt", long.as_slice())?;
-    let mut shelf = DirShelf::new(&rt);
+    let mut shelf = DirShelf::new(alloc, &rt);
     let mut into = Vec::new(alloc);
     for (name, limit, want) in [
         ("outside_test.txt", 5000, Fetched::Whole),
@@ -59,7 +70,15 @@ fn in_a_folder(rt: HostRuntime) -> Result<(), Fail> {
         assert!(rt; shelf.fetch(name, limit, &mut into) == Ok(want));
         assert!(rt; want != Fetched::Whole || into.as_slice() == long.as_slice());
     }
+    for text in ["once", "again and longer", ""] {
+        assert!(rt; shelf.replace("outside_test.txt", text.as_bytes()) == Ok(()));
+        assert!(rt; shelf.fetch("outside_test.txt", 5000, &mut into) == Ok(Fetched::Whole));
+        assert!(rt; into.as_slice() == text.as_bytes());
+    }
+    assert!(rt; !fs::exists(&rt, "outside_test.txt.new")?);
     assert!(rt; shelf.fetch(".", 9000, &mut into) == Err(FetchErr::Failed));
+    assert!(rt; shelf.replace(".", b"") == Err(ReplaceErr::Failed));
+    fs::remove_file(&rt, "..new")?;
     fs::remove_file(&rt, "outside_test.txt")?;
     assert!(rt; StdOut::new(&rt).put(b"one line\n") == Ok(()));
     Ok(())

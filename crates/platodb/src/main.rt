@@ -31,7 +31,7 @@ fn main(rt: HostRuntime) -> ExitCode {
         Err(_) => return ExitCode::from(NO_WORDS),
     };
     let after_name = words.get(1..).unwrap_or(&[]);
-    let mut shelf = DirShelf::new(&rt);
+    let mut shelf = DirShelf::new(rt.alloc(), &rt);
     let mut out = StdOut::new(&rt);
     let status = run(rt.alloc(), after_name, &mut shelf, &mut out);
     ExitCode::from(status.number())

@@ -1,9 +1,12 @@
+pub mod AddedLaws
+pub mod FactLaws
 pub mod DecodedLaws
 pub mod EntryReading
 pub mod GoodLaws
 pub mod HeaderLaws
 pub mod ImageLaws
-pub mod PieceLaws
 pub mod StoredLaws
+pub mod TreeImages
+pub mod Worked
 pub mod TreeReading
 pub mod TruthLaws

@@ -13,7 +13,7 @@ use Rattle.store_file.specs.StoreValue.{name_of, AreNames, EachTree, IsStoreValu
 use Rattle.store_file.specs.Stored.{series_of, AreOf, AreShort, StoreParts, IsSound, store_value, stored_entries}
 use Rattle.store_file.specs.declared.store.Stored.{Stored}
 
-count-tree : (nodes : List Node) (root : Option ℕ) (n : ℕ) → IsTreeAt nodes root n → length (all_readings (value_at nodes root n)) ≡ n
+pub count-tree : (nodes : List Node) (root : Option ℕ) (n : ℕ) → IsTreeAt nodes root n → length (all_readings (value_at nodes root n)) ≡ n
 count-tree nodes None n h = sym h
 count-tree nodes (Some p) n h = h.1.long
 
@@ -29,11 +29,11 @@ pub AreShort-of : (nodes : List Node) (es : List (List ℕ × Stored)) → AreOf
 AreShort-of nodes [] are = tt
 AreShort-of nodes (e ∷ es) are = (few-tree nodes e.1.tree.root e.1.tree.n are.0, AreShort-of nodes es are.1)
 
-length-series : (nodes : List Node) (es : List (List ℕ × Stored)) → length (series_of nodes es) ≡ length es
+pub length-series : (nodes : List Node) (es : List (List ℕ × Stored)) → length (series_of nodes es) ≡ length es
 length-series nodes [] = refl
 length-series nodes (e ∷ es) = ap suc (length-series nodes es)
 
-names-series : (nodes : List Node) (es : List (List ℕ × Stored)) → map name_of (series_of nodes es) ≡ keys_of es
+pub names-series : (nodes : List Node) (es : List (List ℕ × Stored)) → map name_of (series_of nodes es) ≡ keys_of es
 names-series nodes [] = refl
 names-series nodes (e ∷ es) = ap (λ q. e.0 ∷ q) (names-series nodes es)
 

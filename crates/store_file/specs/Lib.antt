@@ -1,3 +1,6 @@
+pub mod Added
+pub mod Facts
+pub mod Header
 pub mod Decoded
 pub mod Good
 pub mod Header
@@ -6,3 +9,4 @@ pub mod Parts
 pub mod Restored
 pub mod StoreValue
 pub mod Stored
+pub mod Worked

@@ -1,5 +1,8 @@
+ghost use Rattle.store_file.specs.Added.{AddingKeepsStores};
+ghost use Rattle.store_file.specs.Facts.{StoresHaveFacts};
 ghost use Rattle.store_file.specs.Header.{FixedReadsBack, EntryReadsBack};
 ghost use Rattle.store_file.specs.StoreValue.{ImagesDiffer};
+ghost use Rattle.store_file.specs.Worked.{OneReadingIs, TurnsAre};
 
 /// Two stores never have the same bytes.
 pub fn images_differ()
@@ -10,4 +13,20 @@ pub fn images_differ()
 pub fn headers_keep()
     ensures fixed { FixedReadsBack }
     ensures entry { EntryReadsBack }
+{}
+
+/// The bytes of two small stores: one reading 7, and 32 readings, 0 and 10 in turn.
+pub fn small_stores_have_bytes()
+    ensures one { OneReadingIs }
+    ensures turns { TurnsAre }
+{}
+
+/// A store with one more series, where it may have one, is a store again.
+pub fn adding_keeps_stores()
+    ensures { AddingKeepsStores }
+{}
+
+/// The facts of a store are few, small, and of names that differ.
+pub fn stores_have_facts()
+    ensures { StoresHaveFacts }
 {}

@@ -1,6 +1,8 @@
 //! A store of series, and its bytes.
 #![tactic(auto)]
 
+mod adding;
+mod facts;
 mod decoding;
 mod entry_reading;
 mod header;
@@ -13,8 +15,11 @@ mod tree_reading;
 mod trees;
 mod truth;
 
+pub use adding::SeriesErr;
 pub use decoding::{StoreErr, bytes_decode, decode};
 pub use header::{Entry, Fixed};
-pub use laws::{headers_keep, images_differ};
+pub use laws::{
+    adding_keeps_stores, headers_keep, images_differ, small_stores_have_bytes, stores_have_facts,
+};
 pub use reading::{entry_len, read_entry, read_fixed};
 pub use store::{Store, Stored};

@@ -1,0 +1,11 @@
+use Rattle.std.proofs.Common.{◌≡◌, Some, subst, ◌∙◌}
+use Rattle.std.specs.BTreeMap.{Updates}
+use Rattle.std.specs.String.{string_cmp}
+use Rattle.outside.proofs.FileLaws.{files_of-updated}
+use Rattle.outside.proofs.memory_shelf.put.Goals as goal
+
+pub returns-in-Ok-insert-clause-ok : goal.returns-in-Ok-insert-clause-ok
+returns-in-Ok-insert-clause-ok c =
+    let held : c.of.result ≡ c.args.bytes.now = c.of.ensures ∙ c.in-Ok-from_slice.ensures.items in
+    files_of-updated c.args.files.now c.insert.new.self c.in-Ok.name c.args.name.now c.args.bytes.now c.in-Ok.ensures.ok
+    (subst (λ v. Updates string_cmp c.args.files.now c.insert.new.self c.in-Ok.name (Some v)) held c.in-Ok-insert.ensures.updates)

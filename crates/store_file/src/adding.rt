@@ -1,0 +1,84 @@
+// Series that are added to a store.
+
+ghost use Rattle.std.specs.Prelude.{◌≡◌, ◌⊎◌, ◌+◌, length, OnOk, OnErr, IfErr, None, Some};
+ghost use Rattle.segment.specs.Measure.{AreReadings};
+ghost use Rattle.segment.specs.Shape.{node_count};
+ghost use Rattle.seg_tree.specs.Linked.{Extends};
+ghost use Rattle.store_file.specs.Added.{IsAddable, add_refusal, name_refusal, series_err_of, with_series};
+ghost use Rattle.store_file.specs.Stored.{store_value};
+
+use crate::{Store, Stored};
+use expr::Name;
+use seg_tree::TreeErr;
+
+/// Why a series was not added.
+#[derive(Clone, Copy, Debug, Drop, PartialEq, Eq)]
+pub enum SeriesErr {
+    /// There is a series of that name.
+    Exists,
+    /// There are 16 series.
+    TooMany,
+    /// There is no series of that name.
+    Unknown,
+    /// It would have more than 2 ^ 20 readings.
+    TooLong,
+    /// The arena's nodes would pass its limit.
+    ArenaFull,
+    Memory,
+}
+
+impl Store {
+    /// Why no series of this name is added, whatever its readings are.
+    pub fn name_refusal(&self, name: &Name) -> Option<SeriesErr>
+        ensures { result ≡ name_refusal (store_value self.now) name.now }
+    {
+        if self.series.contains_key(name) {
+            return Some(SeriesErr::Exists);
+        }
+        if self.series.len() >= 16 {
+            return Some(SeriesErr::TooMany);
+        }
+        None
+    }
+
+    /// Adds a series, last. After a refusal the store is as before.
+    pub fn add_series(&mut self, name: Name, xs: &[i32]) -> Result<(), SeriesErr>
+        requires { AreReadings xs.now }
+        ensures added { OnOk result (store_value self.new ≡ with_series (store_value self.old) name xs.now) }
+        ensures addable { OnOk result (IsAddable (store_value self.old) name xs.now) }
+        ensures ok { OnOk result (add_refusal self.old name xs.now ≡ None) }
+        ensures refused { IfErr result (λ e. (e ≡ SeriesErr.Memory) ⊎ (add_refusal self.old name xs.now ≡ Some e)) }
+        ensures stay { OnErr result (self.new ≡ self.old) }
+
+        ensures extends { Extends self.old.arena.nodes self.new.arena.nodes }
+        ensures count { OnOk result (length self.new.arena.nodes ≡ length self.old.arena.nodes + node_count (length xs.now)) }
+        ensures limit { self.new.arena.limit ≡ self.old.arena.limit }
+    {
+        if let Some(refusal) = self.name_refusal(&name) {
+            return Err(refusal);
+        }
+        // A name's bytes are a name, as its type keeps it.
+        let _ = name.bytes();
+        match self.series.reserve(1) {
+            Ok(()) => {}
+            Err(_) => return Err(SeriesErr::Memory),
+        }
+        match self.arena.build(xs) {
+            Ok(tree) => {
+                let _ = self.series.insert(name, Stored { tree }).unwrap();
+                Ok(())
+            }
+            Err(error) => Err(series_err(error)),
+        }
+    }
+}
+
+fn series_err(error: TreeErr) -> SeriesErr
+    ensures { result ≡ series_err_of error }
+{
+    match error {
+        TreeErr::TooLong => SeriesErr::TooLong,
+        TreeErr::ArenaFull => SeriesErr::ArenaFull,
+        TreeErr::Memory => SeriesErr::Memory,
+    }
+}

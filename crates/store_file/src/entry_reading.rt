@@ -13,11 +13,7 @@ use tree_file::tree_bytes;
 pub(crate) const FIXED: usize = 8;
 
 /// Reads the entries of a header, which stand behind its fixed part.
-pub(crate) fn read_entries(
-    alloc: Global,
-    bytes: &[u8],
-    count: u8,
-) -> Result<Vec<Entry>, StoreErr>
+pub(crate) fn read_entries(alloc: Global, bytes: &[u8], count: u8) -> Result<Vec<Entry>, StoreErr>
     requires { 8 ≤ length bytes.now }
     ensures ok { IfOk result (λ es. entries_in count 8 [] (drop 8 bytes.now) ≡ Ok es.items) }
     ensures err { IfErr result (λ e. (e ≡ StoreErr.Memory) ⊎ ((place : ℕ) × (e ≡ StoreErr.NotAStore place) × (entries_in count 8 [] (drop 8 bytes.now) ≡ Err place))) }

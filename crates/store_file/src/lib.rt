@@ -2,9 +2,9 @@
 #![tactic(auto)]
 
 mod adding;
-mod facts;
 mod decoding;
 mod entry_reading;
+mod facts;
 mod header;
 mod laws;
 mod reading;

@@ -8,8 +8,8 @@ ghost use Rattle.tree_file.specs.Image.{words_in, size, tree_size, tree_in};
 ghost use Rattle.tree_file.specs.Record.{seg_in};
 ghost use Rattle.store_file.specs.Decoded.{series_tree, bad_in_tree};
 
-use crate::truth::first_bad;
 use crate::StoreErr;
+use crate::truth::first_bad;
 use expr::Name;
 use seg_tree::{Arena, Tree, TreeErr};
 use segment::{Seg, split};
@@ -121,7 +121,7 @@ fn parts(bytes: &[u8], start: u32, len: u32, s: u32) -> (&[u8], &[u8])
 }
 
 /// What stands behind so many bytes.
-fn behind(bytes: &[u8], n: usize) -> &[u8]
+pub(crate) fn behind(bytes: &[u8], n: usize) -> &[u8]
     requires { n ≤ length bytes.now }
     ensures { result.now ≡ drop n bytes.now }
 {

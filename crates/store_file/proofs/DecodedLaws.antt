@@ -10,14 +10,14 @@ use lib.Pointwise.{bytes_decides}
 use Rattle.semantics.specs.Names.{is_name, same_name}
 use Rattle.segment.specs.Nodes.{IsSeriesTree}
 use Rattle.segment.specs.Shape.{plan}
-use Rattle.segment.specs.Tree.{SegTree, all_readings}
+use Rattle.segment.specs.Tree.{SegTree}
 use Rattle.tree_file.specs.Bytes.{IsBytes, bytes_of, number_of}
-use Rattle.tree_file.specs.Image.{image, tree_in, tree_size}
+use Rattle.tree_file.specs.Image.{image, tree_size}
 use Rattle.tree_file.proofs.Digits.{bytes_of-number_of, drop_bytes, take_bytes}
 use Rattle.tree_file.proofs.ImageLaws.{take_front, drop_front, image_part}
 use Rattle.tree_file.proofs.RecordLaws.{length-bytes_of}
 use Rattle.tree_file.proofs.TrueTrees.{tree-read, tree-size}
-use Rattle.store_file.specs.Decoded.{entry_size, first_entry, if_new, before, with_entry, entries_in, entry_name, names_of, IsShort, entries_size, trees_size, series_tree, series_in, bad_in_tree, bad_in, header_size, store_with, by_nodes, by_series, by_entries, by_fixed, decode_of}
+use Rattle.store_file.specs.Decoded.{entry_size, first_entry, if_new, before, with_entry, entries_in, names_of, IsShort, entries_size, trees_size, series_tree, series_in, bad_in_tree, bad_in, header_size, store_with, by_nodes, by_series, by_entries, by_fixed, decode_of}
 use Rattle.store_file.specs.Header.{byte_at, fixed_of, is_entry, entry_of}
 use Rattle.store_file.specs.StoreValue.{Series, StoreValue, count_of, name_of, has_name, AreNames, EachTree, IsStoreValue, entry_bytes, entries_bytes, tree_image, trees_image, fixed_bytes, header_of, store_image}
 use Rattle.store_file.specs.Stored.{StoreParts, store_value}

@@ -1,4 +1,4 @@
-use Rattle.std.proofs.Common.{◌≡◌, sym, ap, ◌∙◌, inl, inr, arith}
+use Rattle.std.proofs.Common.{◌∙◌, inr, arith}
 use Rattle.std.proofs.lemmas.Result.{err_from_is_err_and}
 use Rattle.store_file.proofs.DecodedLaws.{header-read, refused-entries, measured, read-length, read-behind, room-behind}
 use Rattle.store_file.proofs.decoding.read_store.Goals as goal

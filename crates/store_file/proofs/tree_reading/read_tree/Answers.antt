@@ -4,7 +4,7 @@ use Rattle.segment.specs.declared.segments.Seg.{Seg}
 use Rattle.segment.specs.Tree.{all_readings, all_segs}
 use Rattle.store_file.specs.Decoded.{series_tree}
 use Rattle.store_file.specs.Good.{is_bad}
-use Rattle.store_file.proofs.TruthLaws.{AreNodesOf, nodes-long, nodes-over, nodes-bad, nodes-with}
+use Rattle.store_file.proofs.TruthLaws.{AreNodesOf, nodes-long, nodes-over, nodes-with}
 use Rattle.store_file.proofs.tree_reading.read_tree.Goals as goal
 
 are_nodes : (n : ℕ) (bytes : List ℕ) (none segs lent : List Seg) (nought xs own : List ℤ) → none ≡ [] → nought ≡ [] → segs ≡ none ++ all_segs (series_tree n bytes) → xs ≡ nought ++ all_readings (series_tree n bytes) → lent ≡ segs → own ≡ xs

@@ -21,7 +21,7 @@ pub struct Stored {
 /// Series by name, in order of loading, and the nodes of their trees.
 #[derive(Drop)]
 pub struct Store {
-    alloc: Global,
+    pub(crate) alloc: Global,
     /// How many digits after the point a reading has.
     pub scale: u8,
     /// The degree up to which nodes are fitted, which is that of the arena.

@@ -133,21 +133,29 @@ fn read_query(alloc: Global, words: &[String]) -> Result<Option<Command<'_>>, Al
     let Some(budget) = read_digits(word_at(words, 2).as_bytes(), MOST_BUDGET) else {
         return Ok(None);
     };
-    let asked = match parse(alloc, word_at(words, 3).as_bytes()) {
+    let store = word_at(words, 1);
+    match parse(alloc, word_at(words, 3).as_bytes()) {
         Ok(q) => {
             if !is_of_numbers(&q) {
                 return Ok(None);
             }
-            Ok(q)
+            let asked = Ok(q);
+            Ok(Some(Command::Query(Query {
+                store,
+                budget,
+                asked,
+            })))
         }
-        Err(ParseErr::Memory) => return Err(AllocError),
-        Err(e) => Err(e),
-    };
-    Ok(Some(Command::Query(Query {
-        store: word_at(words, 1),
-        budget,
-        asked,
-    })))
+        Err(ParseErr::Memory) => Err(AllocError),
+        Err(e) => {
+            let asked = Err(e);
+            Ok(Some(Command::Query(Query {
+                store,
+                budget,
+                asked,
+            })))
+        }
+    }
 }
 
 /// The command that the words spell.

@@ -1,6 +1,6 @@
 -- Bytes decode exactly where they are those of a store, and then to that one.
-use Rattle.std.proofs.Common.{◌≡◌, ◌⊎◌, ℕ, zero, suc, ◌+◌, ◌^◌, ◌≤◌, Bool, true, false, not, ◌==◌, ◌&&◌, nat_lt, nat_le, if◌then◌else◌, List, [], ◌∷◌, ◌++◌, length, map, take, drop, Option, Some, None, Result, Ok, Err, refl, sym, ap, ap₂, subst, ◌∙◌, inl, inr, arith, true≢false, take-append-drop, length-append, length-drop, append_assoc, append-nil, drop-cons, take_all, take-add, drop-drop}
-use Rattle.std.specs.Prelude.{codes, MatchResult}
+use Rattle.std.proofs.Common.{◌≡◌, ◌⊎◌, ℕ, zero, suc, ◌+◌, ◌^◌, ◌<◌, ◌≤◌, Bool, true, false, not, ◌==◌, ◌&&◌, nat_lt, nat_le, if◌then◌else◌, List, [], ◌∷◌, ◌++◌, length, map, take, drop, Option, Some, None, Result, Ok, Err, refl, sym, ap, ap₂, subst, ◌∙◌, inl, inr, arith, true≢false, take-append-drop, length-append, length-drop, append_assoc, append-nil, drop-cons, take_all, take-add, drop-drop}
+use Rattle.std.specs.Prelude.{codes, MatchResult, IfOk, IfErr}
 use Rattle.std.proofs.lemmas.Bool.Decides.{nat_tests, Decides-eqb}
 use Rattle.std.proofs.lemmas.List.{length-take-le, drop_all}
 use Rattle.std.proofs.lemmas.List.Elements.{All-cons, All-nil, All-head, All-tail}
@@ -10,16 +10,17 @@ use lib.Pointwise.{bytes_decides}
 use Rattle.semantics.specs.Names.{is_name, same_name}
 use Rattle.segment.specs.Nodes.{IsSeriesTree}
 use Rattle.segment.specs.Shape.{plan}
-use Rattle.segment.specs.Tree.{SegTree, all_readings}
+use Rattle.segment.specs.Tree.{SegTree}
 use Rattle.tree_file.specs.Bytes.{IsBytes, bytes_of, number_of}
-use Rattle.tree_file.specs.Image.{image, tree_in, tree_size}
+use Rattle.tree_file.specs.Image.{image, tree_size}
 use Rattle.tree_file.proofs.Digits.{bytes_of-number_of, drop_bytes, take_bytes}
 use Rattle.tree_file.proofs.ImageLaws.{take_front, drop_front, image_part}
 use Rattle.tree_file.proofs.RecordLaws.{length-bytes_of}
 use Rattle.tree_file.proofs.TrueTrees.{tree-read, tree-size}
-use Rattle.store_file.specs.Decoded.{entry_size, first_entry, if_new, before, with_entry, entries_in, entry_name, names_of, IsShort, entries_size, trees_size, series_tree, series_in, bad_in_tree, bad_in, header_size, store_with, by_nodes, by_series, by_entries, by_fixed, decode_of}
+use Rattle.store_file.specs.Decoded.{entry_size, first_entry, if_new, before, with_entry, entries_in, names_of, IsShort, entries_size, trees_size, series_tree, series_in, bad_in_tree, bad_in, header_size, store_with, by_nodes, by_series, by_entries, by_fixed, decode_of}
 use Rattle.store_file.specs.Header.{byte_at, fixed_of, is_entry, entry_of}
 use Rattle.store_file.specs.StoreValue.{Series, StoreValue, count_of, name_of, has_name, AreNames, EachTree, IsStoreValue, entry_bytes, entries_bytes, tree_image, trees_image, fixed_bytes, header_of, store_image}
+use Rattle.store_file.specs.Stored.{StoreParts, store_value}
 use Rattle.store_file.specs.declared.header.Fixed.{Fixed}
 use Rattle.store_file.specs.declared.header.Entry.{Entry}
 use Rattle.store_file.specs.declared.decoding.StoreErr.{StoreErr}
@@ -374,3 +375,103 @@ image-decode bytes m are e =
     (image_of bytes f es are room (fixed-written (take 8 bytes) f (length-take-le 8 bytes room) fixed)
     (entries-written f.count 8 [] (drop 8 bytes) es (drop_bytes 8 bytes are) header)
     ((Decides-eqb (length bytes) (header_size es + trees_size es)).0 len) good)
+
+-- ---- step by step, as it is read
+
+below : (a b : ℕ) → a < b → nat_lt a b ≡ true
+below a b h = grind (arith, nat_tests)
+
+pub decode-short : (bytes : List ℕ) → length bytes < 8 → decode_of bytes ≡ Err (NotAStore 0)
+unfolding decode_of
+decode-short bytes short = ap (λ b. if b then Err (NotAStore 0) else by_fixed bytes (fixed_of (take 8 bytes))) (below (length bytes) 8 short)
+
+decode-long : (bytes : List ℕ) → 8 ≤ length bytes → decode_of bytes ≡ by_fixed bytes (fixed_of (take 8 bytes))
+unfolding decode_of
+decode-long bytes long = ap (λ b. if b then Err (NotAStore 0) else by_fixed bytes (fixed_of (take 8 bytes))) (not_below (length bytes) 8 long)
+
+pub decode-unfixed : (bytes : List ℕ) (place : ℕ) → 8 ≤ length bytes → fixed_of (take 8 bytes) ≡ Err place → decode_of bytes ≡ Err (NotAStore place)
+decode-unfixed bytes place long e = decode-long bytes long ∙ ap (by_fixed bytes) e
+
+pub decode-fixed : (bytes : List ℕ) (f : Fixed) → 8 ≤ length bytes → fixed_of (take 8 bytes) ≡ Ok f → decode_of bytes ≡ by_entries bytes f (entries_in f.count 8 [] (drop 8 bytes))
+decode-fixed bytes f long e = decode-long bytes long ∙ ap (by_fixed bytes) e
+
+pub decode-refused : (bytes : List ℕ) (f : Fixed) (place : ℕ) → 8 ≤ length bytes → fixed_of (take 8 bytes) ≡ Ok f → entries_in f.count 8 [] (drop 8 bytes) ≡ Err place → decode_of bytes ≡ Err (NotAStore place)
+decode-refused bytes f place long fixed e = decode-fixed bytes f long fixed ∙ ap (by_entries bytes f) e
+
+pub decode-entries : (bytes : List ℕ) (f : Fixed) (es : List Entry) → 8 ≤ length bytes → fixed_of (take 8 bytes) ≡ Ok f → entries_in f.count 8 [] (drop 8 bytes) ≡ Ok es → length bytes ≡ header_size es + trees_size es
+    → decode_of bytes ≡ by_series f (series_in es (drop (header_size es) bytes))
+decode-entries bytes f es long fixed header len =
+    decode-fixed bytes f long fixed ∙ ap (by_entries bytes f) header
+    ∙ ap (λ b. if b then by_series f (series_in es (drop (header_size es) bytes)) else Err (NotAStore (header_size es))) ((Decides-eqb (length bytes) (header_size es + trees_size es)).1 len)
+
+differs : (a b : ℕ) → (a ≡ b → ⊥) → (a == b) ≡ false
+differs a b h = grind (arith, nat_tests)
+
+pub decode-length : (bytes : List ℕ) (f : Fixed) (es : List Entry) → 8 ≤ length bytes → fixed_of (take 8 bytes) ≡ Ok f → entries_in f.count 8 [] (drop 8 bytes) ≡ Ok es → (length bytes ≡ header_size es + trees_size es → ⊥)
+    → decode_of bytes ≡ Err (NotAStore (header_size es))
+decode-length bytes f es long fixed header other =
+    decode-fixed bytes f long fixed ∙ ap (by_entries bytes f) header
+    ∙ ap (λ b. if b then by_series f (series_in es (drop (header_size es) bytes)) else Err (NotAStore (header_size es))) (differs (length bytes) (header_size es + trees_size es) other)
+
+-- what is known of a header that was read
+pub record IsHeader (f : Fixed) (es : List Entry) : Type 0 where
+  pub scale : f.scale ≤ 6
+  pub degree : f.degree ≤ 2
+  pub few : length es ≤ 16
+  pub names : AreNames [] (names_of es)
+  pub short : All IsShort es
+
+pub header-read : (bytes : List ℕ) (f : Fixed) (es lent : List Entry) → IsBytes bytes → 8 ≤ length bytes → fixed_of (take 8 bytes) ≡ Ok f → entries_in f.count 8 [] (drop 8 bytes) ≡ Ok es → lent ≡ es → IsHeader f lent
+header-read bytes f es lent are long fixed header same =
+    let front = fixed-written (take 8 bytes) f (length-take-le 8 bytes long) fixed in
+    let entries = entries-written f.count 8 [] (drop 8 bytes) es (drop_bytes 8 bytes are) header in
+    rw same (record { scale = front.scale; degree = front.degree; few = omega (arith, entries.count, front.count); names = entries.names; short = entries.short })
+
+-- a store that was read has these bytes
+pub read-stands : (bytes : List ℕ) (r : Result StoreParts StoreErr) → IsBytes bytes → IfOk r (λ s. decode_of bytes ≡ Ok (store_value s)) → IfOk r (λ s. store_image (store_value s) ≡ bytes)
+read-stands bytes (Ok s) are h = (image-decode bytes (store_value s) are h).image
+read-stands bytes (Err e) are h = tt
+
+pub read-store : (bytes : List ℕ) (r : Result StoreParts StoreErr) → IsBytes bytes → IfOk r (λ s. decode_of bytes ≡ Ok (store_value s)) → IfOk r (λ s. IsStoreValue (store_value s))
+read-store bytes (Ok s) are h = (image-decode bytes (store_value s) are h).store
+read-store bytes (Err e) are h = tt
+
+not_refused : (e : StoreErr) (m : StoreValue) (d : Result StoreValue StoreErr) → d ≡ Ok m → (e ≡ Memory) ⊎ (d ≡ Err e) → e ≡ Memory
+not_refused e m d is (inl memory) = memory
+not_refused e m d is (inr refused) = let no : Ok m ≡ Err e = sym is ∙ refused in cc
+
+same_ok : (m n : StoreValue) (d : Result StoreValue StoreErr) → d ≡ Ok m → d ≡ Ok n → n ≡ m
+same_ok m n d e f = let same : Ok n ≡ Ok m = sym f ∙ e in cc
+
+-- a store that has these bytes is found
+pub read-found : (bytes : List ℕ) (r : Result StoreParts StoreErr) → IfOk r (λ s. decode_of bytes ≡ Ok (store_value s)) → IfErr r (λ e. (e ≡ Memory) ⊎ (decode_of bytes ≡ Err e))
+    → (m : StoreValue) → IsStoreValue m → store_image m ≡ bytes → MatchResult r (λ s. store_value s ≡ m) (λ e. e ≡ Memory)
+read-found bytes (Ok s) ok err m is image = same_ok m (store_value s) (decode_of bytes) (ap decode_of (sym image) ∙ decode-image m is) ok
+read-found bytes (Err e) ok err m is image = not_refused e m (decode_of bytes) (ap decode_of (sym image) ∙ decode-image m is) err
+
+pub refused-entries : (bytes : List ℕ) (f : Fixed) (e : StoreErr) → 8 ≤ length bytes → fixed_of (take 8 bytes) ≡ Ok f → (e ≡ Memory) ⊎ ((place : ℕ) × (e ≡ NotAStore place) × (entries_in f.count 8 [] (drop 8 bytes) ≡ Err place))
+    → (e ≡ Memory) ⊎ (decode_of bytes ≡ Err e)
+refused-entries bytes f e long fixed (inl memory) = inl memory
+refused-entries bytes f e long fixed (inr refused) = inr (decode-refused bytes f refused.0 long fixed refused.2 ∙ ap Err (sym refused.1))
+
+-- the entries that were read, and how many bytes their header and their trees have
+pub record IsMeasured (es : List Entry) (h t : ℕ) : Type 0 where
+  pub header : h ≡ header_size es
+  pub trees : t ≡ trees_size es
+
+pub measured : (es lent again : List Entry) (h t : ℕ) → lent ≡ es → again ≡ es → h ≡ header_size lent → t ≡ trees_size again → IsMeasured es h t
+measured es lent again h t one two header trees = record { header = header ∙ ap header_size one; trees = trees ∙ ap trees_size two }
+
+pub read-length : (bytes : List ℕ) (f : Fixed) (es : List Entry) (h t : ℕ) → 8 ≤ length bytes → fixed_of (take 8 bytes) ≡ Ok f → entries_in f.count 8 [] (drop 8 bytes) ≡ Ok es → IsMeasured es h t → (length bytes ≡ h + t → ⊥)
+    → decode_of bytes ≡ Err (NotAStore h)
+read-length bytes f es h t long fixed header sizes other =
+    decode-length bytes f es long fixed header (λ e. other (e ∙ ap₂ ◌+◌ (sym sizes.header) (sym sizes.trees))) ∙ ap (λ k. Err (NotAStore k)) (sym sizes.header)
+
+pub read-behind : (bytes rest : List ℕ) (f : Fixed) (es lent : List Entry) (h t : ℕ) → 8 ≤ length bytes → fixed_of (take 8 bytes) ≡ Ok f → entries_in f.count 8 [] (drop 8 bytes) ≡ Ok es → IsMeasured es h t → length bytes ≡ h + t → lent ≡ es → rest ≡ drop h bytes
+    → decode_of bytes ≡ by_series f (series_in lent rest)
+read-behind bytes rest f es lent h t long fixed header sizes same lent_is rest_is =
+    decode-entries bytes f es long fixed header (same ∙ ap₂ ◌+◌ sizes.header sizes.trees)
+    ∙ ap₂ (λ ds q. by_series f (series_in ds q)) (sym lent_is) (ap (λ k. drop k bytes) (sym sizes.header) ∙ sym rest_is)
+
+pub room-behind : (bytes rest : List ℕ) (es lent : List Entry) (h t : ℕ) → IsMeasured es h t → length bytes ≡ h + t → lent ≡ es → rest ≡ drop h bytes → length rest ≡ trees_size lent
+room-behind bytes rest es lent h t sizes same lent_is rest_is = omega (arith, ap length rest_is, length-drop h bytes, same, sizes.trees, ap trees_size lent_is)

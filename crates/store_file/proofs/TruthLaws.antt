@@ -1,5 +1,5 @@
 -- A tree has no bad node exactly where it is the tree of a series.
-use Rattle.std.proofs.Common.{◌≡◌, ℕ, zero, suc, ◌+◌, ◌-◌, ◌^◌, ◌<◌, ◌≤◌, Bool, true, false, not, ℤ, List, [], ◌∷◌, ◌++◌, length, take, drop, Option, Some, None, cond, refl, sym, ap, ap₂, subst, ◌∙◌, arith, length-append, append-nil, take-take, drop-drop, take_all}
+use Rattle.std.proofs.Common.{◌≡◌, ℕ, zero, suc, ◌+◌, ◌-◌, ◌^◌, ◌<◌, ◌≤◌, Bool, true, false, not, ℤ, List, [], ◌++◌, length, take, drop, Option, Some, None, cond, refl, sym, ap, ap₂, subst, ◌∙◌, arith, length-append, take-take, drop-drop, take_all}
 use Rattle.std.proofs.Math.Seq.{drop-append_seam}
 use Rattle.std.proofs.lemmas.List.{drop-take, take-append-le}
 use Rattle.std.proofs.lemmas.List.Elements.{All-append, All-cons, All-nil}
@@ -10,7 +10,7 @@ use Rattle.segment.specs.declared.segments.Seg.{Seg}
 use Rattle.segment.specs.Measure.{AreReadings, IsTrueOf}
 use Rattle.segment.specs.Nodes.{IsSeriesTree}
 use Rattle.segment.specs.Shape.{Plan, leaf, fork, plan}
-use Rattle.segment.specs.Tree.{SegTree, tip, node, readings_of, segs_of, plan_of, width, all_readings, all_segs, AllTrue, IsTreeOver}
+use Rattle.segment.specs.Tree.{SegTree, tip, node, readings_of, segs_of, plan_of, width, all_readings, all_segs, AllTrue}
 use Rattle.segment.proofs.ReadingLaws.{AreReadings-take, AreReadings-drop}
 use Rattle.seg_tree.specs.Adopted.{IsTreeWith}
 use Rattle.tree_file.specs.Image.{words_in, tree_in}
@@ -18,9 +18,8 @@ use Rattle.tree_file.specs.Record.{seg_in}
 use Rattle.tree_file.proofs.ImageLaws.{plan_of-tree_in}
 use Rattle.tree_file.proofs.PlanLaws.{Covers, covers-plan}
 use Rattle.store_file.specs.Decoded.{bad_node, bad_in_tree, series_tree}
-use Rattle.store_file.specs.Good.{is_good, own_readings, is_bad, first_bad, IsOver}
-use Rattle.store_file.specs.declared.decoding.StoreErr.{StoreErr}
-use Rattle.store_file.proofs.GoodLaws.{IsGood, is_good-IsGood, IsGood-is_good}
+use Rattle.store_file.specs.Good.{is_good, own_readings, is_bad, IsOver}
+use Rattle.store_file.proofs.GoodLaws.{is_good-IsGood, IsGood-is_good}
 
 -- ---- where the readings of the nodes stand
 

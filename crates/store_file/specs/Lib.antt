@@ -1,11 +1,9 @@
 pub mod Added
-pub mod Facts
-pub mod Header
 pub mod Decoded
+pub mod Facts
 pub mod Good
 pub mod Header
 pub mod Laws
-pub mod Parts
 pub mod Restored
 pub mod StoreValue
 pub mod Stored

@@ -1,18 +1,19 @@
-ghost use Rattle.std.specs.Prelude.{◌≡◌, ◌⊎◌, ◌^◌, ◌≤◌, length, take, [], Ok, Err, Some, IfOk, OnOk, IfErr, MatchResult};
+ghost use Rattle.std.specs.Prelude.{◌≡◌, ◌⊎◌, ◌+◌, ◌^◌, ◌<◌, ◌≤◌, length, take, drop, [], ◌∷◌, ◌++◌, false, Ok, Err, Some, IfOk, OnOk, IfErr, MatchResult};
 ghost use Rattle.std.specs.List.{All};
+ghost use Rattle.std.specs.Map.{keys_of};
 ghost use Rattle.store_file.specs.Decoded.{IsShort, bad_in, by_series, decode_of, names_of, series_in, trees_size};
 ghost use Rattle.store_file.specs.Header.{fixed_of};
-ghost use Rattle.store_file.specs.StoreValue.{AreNames, StoreValue, IsStoreValue, store_image};
+ghost use Rattle.store_file.specs.StoreValue.{AreNames, StoreValue, has_name, IsStoreValue, store_image};
 ghost use Rattle.store_file.specs.Laws.{ImageDecodes, DecodedIsImage};
 ghost use Rattle.store_file.specs.Restored.{HoldsSeries};
 ghost use Rattle.store_file.specs.Stored.{store_value};
 
 use crate::entry_reading::{FIXED, header_len, read_entries, trees_len};
-use crate::tree_reading::read_tree;
+use crate::tree_reading::{behind, read_tree};
 use crate::{Entry, Fixed, Store, Stored, read_fixed};
 use expr::Name;
 use indexmap::IndexMap;
-use seg_tree::Arena;
+use seg_tree::{Arena, Tree};
 use std::alloc::Global;
 use tree_file::tree_bytes;
 
@@ -58,7 +59,7 @@ fn read_store(alloc: Global, bytes: &[u8]) -> Result<Store, StoreErr>
     if bytes.len() != header + trees_len(&entries) {
         return Err(StoreErr::NotAStore(header as u64));
     }
-    let store = read_series(alloc, fixed, &entries, &bytes[header..])?;
+    let store = read_series(alloc, fixed, &entries, behind(bytes, header))?;
     Ok(store)
 }
 
@@ -131,19 +132,36 @@ fn push_series(
     ensures bad { IfErr result (λ e. (e ≡ StoreErr.Memory) ⊎ (bad_in (series_in entries.now bytes.now) ≡ Some e)) }
     ensures degree { arena.new.degree ≡ arena.old.degree }
     ensures limit { arena.new.limit ≡ arena.old.limit }
-    ensures room { length arena.new.nodes ≤ 2 ^ 21 }
+    ensures room { OnOk result (length arena.new.nodes ≤ 2 ^ 21) }
 {
     let mut place = 0;
     for i in 0..entries.len() {
-        let entry = entries[i];
-        let tree = read_tree(alloc, entry, &bytes[place..], arena)?;
-        match series.insert(entry.name, Stored { tree }) {
-            Ok(_) => {}
-            Err(_) => return Err(StoreErr::Memory),
-        }
-        place += tree_bytes(entry.n) as usize;
+        let Entry { name, n } = nth_entry(entries, i);
+        let tree = read_tree(alloc, name, n, behind(bytes, place), arena)?;
+        add_last(series, name, tree)?;
+        place += tree_bytes(n) as usize;
     }
     Ok(())
+}
+
+/// The entry at a place.
+fn nth_entry(entries: &[Entry], place: usize) -> Entry
+    requires { place < length entries.now }
+    ensures { drop place entries.now ≡ result ∷ drop (place + 1) entries.now }
+{
+    entries[place]
+}
+
+/// Adds a series, last.
+fn add_last(series: &mut IndexMap<Name, Stored>, name: Name, tree: Tree) -> Result<(), StoreErr>
+    requires { has_name (keys_of series.old.entries) name ≡ false }
+    ensures ok { OnOk result (series.new.entries ≡ series.old.entries ++ (name, record { tree = tree }) ∷ []) }
+    ensures err { IfErr result (λ e. e ≡ StoreErr.Memory) }
+{
+    match series.insert(name, Stored { tree }) {
+        Ok(_) => Ok(()),
+        Err(_) => Err(StoreErr::Memory),
+    }
 }
 
 /// Bytes decode exactly where they are those of a store, and then to that one.

@@ -8,8 +8,9 @@ ghost use Rattle.tree_file.specs.Image.{words_in, size, tree_size, tree_in};
 ghost use Rattle.tree_file.specs.Record.{seg_in};
 ghost use Rattle.store_file.specs.Decoded.{series_tree, bad_in_tree};
 
+use crate::StoreErr;
 use crate::truth::first_bad;
-use crate::{Entry, StoreErr};
+use expr::Name;
 use seg_tree::{Arena, Tree, TreeErr};
 use segment::{Seg, split};
 use std::alloc::{AllocError, Global};
@@ -18,17 +19,18 @@ use tree_file::{get_unsigned, read_seg, tree_bytes};
 /// Reads the tree of a series, which bytes begin with, into an arena.
 pub(crate) fn read_tree(
     alloc: Global,
-    entry: Entry,
+    name: Name,
+    n: u32,
     bytes: &[u8],
     arena: &mut Arena,
 ) -> Result<Tree, StoreErr>
-    requires few { entry.n ≤ 2 ^ 20 }
-    requires room { tree_size entry.n ≤ length bytes.now }
+    requires few { n ≤ 2 ^ 20 }
+    requires room { tree_size n ≤ length bytes.now }
     requires places { length arena.old.nodes + 2 ^ 17 ≤ arena.old.limit }
     ensures tree { IfOk result (λ t. IsTreeOf arena.new.nodes t) }
-    ensures value { IfOk result (λ t. value_of arena.new.nodes t ≡ series_tree entry.n bytes.now) }
-    ensures good { OnOk result (bad_in_tree entry.name (series_tree entry.n bytes.now) ≡ None) }
-    ensures bad { IfErr result (λ e. (e ≡ StoreErr.Memory) ⊎ (bad_in_tree entry.name (series_tree entry.n bytes.now) ≡ Some e)) }
+    ensures value { IfOk result (λ t. value_of arena.new.nodes t ≡ series_tree n bytes.now) }
+    ensures good { OnOk result (bad_in_tree name (series_tree n bytes.now) ≡ None) }
+    ensures bad { IfErr result (λ e. (e ≡ StoreErr.Memory) ⊎ (bad_in_tree name (series_tree n bytes.now) ≡ Some e)) }
 
     ensures extends { Extends arena.old.nodes arena.new.nodes }
     ensures count { OnOk result (length arena.new.nodes ≤ length arena.old.nodes + 2 ^ 17) }
@@ -37,12 +39,12 @@ pub(crate) fn read_tree(
 {
     let mut segs = Vec::new(alloc);
     let mut xs = Vec::new(alloc);
-    match push_series_nodes(bytes, entry.n, &mut segs, &mut xs) {
+    match push_series_nodes(bytes, n, &mut segs, &mut xs) {
         Ok(()) => {}
         Err(_) => return Err(StoreErr::Memory),
     }
     if let Some(seg) = first_bad(&segs, &xs) {
-        return Err(StoreErr::BadNode(entry.name, seg.start, seg.len));
+        return Err(StoreErr::BadNode(name, seg.start, seg.len));
     }
     match arena.adopt(&segs, &xs) {
         Ok(tree) => Ok(tree),
@@ -119,7 +121,7 @@ fn parts(bytes: &[u8], start: u32, len: u32, s: u32) -> (&[u8], &[u8])
 }
 
 /// What stands behind so many bytes.
-fn behind(bytes: &[u8], n: usize) -> &[u8]
+pub(crate) fn behind(bytes: &[u8], n: usize) -> &[u8]
     requires { n ≤ length bytes.now }
     ensures { result.now ≡ drop n bytes.now }
 {

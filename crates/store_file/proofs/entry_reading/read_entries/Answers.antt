@@ -1,8 +1,8 @@
-use Rattle.std.proofs.Common.{List, ◌≡◌, ◌+◌, ◌++◌, ◌∷◌, [], length, drop, Some, None, true, false, refl, sym, ap, ◌∙◌, inr, arith, length-drop}
+use Rattle.std.proofs.Common.{List, ◌≡◌, ◌++◌, ◌∷◌, [], drop, Some, None, true, false, refl, sym, ap, ◌∙◌, inr, arith, length-drop}
 use Rattle.store_file.specs.Decoded.{first_entry, names_of}
 use Rattle.store_file.specs.StoreValue.{has_name}
 use Rattle.store_file.specs.declared.header.Entry.{Entry}
-use Rattle.store_file.proofs.EntryReading.{entries-step, entries-none, entries-there, entries-start, entries-end, first_entry-size}
+use Rattle.store_file.proofs.EntryReading.{entries-step, entries-none, entries-there, entries-start, first_entry-size}
 use Rattle.store_file.proofs.entry_reading.read_entries.Goals as goal
 
 pub entries-init : goal.entries-init

@@ -1,5 +1,5 @@
 use Rattle.std.proofs.Common.{◌≡◌, drop}
-use Rattle.std.specs.List.{All, find}
+use Rattle.std.specs.List.{find}
 use Rattle.store_file.specs.Good.{is_bad}
 use Rattle.store_file.proofs.truth.first_bad.Given as goal
 

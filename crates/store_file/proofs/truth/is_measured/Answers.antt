@@ -1,4 +1,4 @@
-use Rattle.std.proofs.Common.{◌≡◌, length, ap, ◌∙◌, SFits, w64, rules}
+use Rattle.std.proofs.Common.{length, ap, ◌∙◌, SFits, w64, rules}
 use Rattle.segment.specs.declared.curves.Curve.{Curve}
 use Rattle.segment.specs.Measure.{miss, reach}
 use Rattle.store_file.proofs.GoodLaws.{curve_passed, measured-told}

@@ -2,7 +2,6 @@
 use Rattle.std.proofs.Common.{◌≡◌, ℕ, zero, suc, ◌+◌, ◌^◌, ◌<◌, ◌≤◌, List, [], ◌∷◌, length, map, drop, get_or, refl, sym, ap, ap₂, subst, ◌∙◌, arith}
 use Rattle.std.specs.List.{All}
 use Rattle.std.proofs.lemmas.List.Elements.{All-get_or}
-use Rattle.semantics.specs.Admission as admission
 use Rattle.expr.specs.Facts.{fact_of, facts_of}
 use Rattle.expr.specs.declared.facts.Fact.{Fact}
 use Rattle.store_file.specs.Facts.{IsSmallFact, fact_in, facts_in}

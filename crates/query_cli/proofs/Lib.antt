@@ -1,3 +1,4 @@
+pub mod CheckLaws
 pub mod Containment
 pub mod CountLaws
 pub mod NameTexts

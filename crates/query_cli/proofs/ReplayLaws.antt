@@ -1,5 +1,5 @@
 -- Histories of stores.
-use Rattle.std.proofs.Common.{◌≡◌, ℕ, ◌≤◌, List, [], ◌∷◌, ◌++◌, Option, Some, None, refl, sym, ap, ◌∙◌, arith}
+use Rattle.std.proofs.Common.{◌≡◌, ℕ, ◌≤◌, List, [], ◌∷◌, ◌++◌, refl, arith}
 use Rattle.store_file.specs.StoreValue.{StoreValue, IsStoreValue}
 use Rattle.store_file.proofs.AddedLaws.{adding-keeps}
 use Rattle.query_cli.specs.Replay.{Accepted, begins, adds, empty_store, step, replay_from, replay, IsAccepted, AreAccepted, IsHistory, HistoriesMakeStores}

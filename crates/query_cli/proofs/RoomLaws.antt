@@ -1,5 +1,5 @@
 -- A store with room for a series takes any readings of a column.
-use Rattle.std.proofs.Common.{◌≡◌, ℕ, ◌^◌, ◌≤◌, List, length, Option, Some, None, Result, Ok, ℤ, refl, ◌∙◌, arith}
+use Rattle.std.proofs.Common.{◌≡◌, ℕ, ◌^◌, ◌≤◌, List, length, Option, Some, None, Ok, ℤ, refl, ◌∙◌}
 use Rattle.store_file.specs.Added.{HasRoom, name_refusal, add_refusal}
 use Rattle.store_file.specs.StoreValue.{StoreValue}
 use Rattle.store_file.specs.Stored.{StoreParts, store_value}

@@ -1,22 +1,21 @@
 -- Commands by their steps.
 use Rattle.std.proofs.Common.{◌≡◌, ℕ, List, [], ◌∷◌, ◌++◌, length, Bool, true, false, Option, Some, None, Result, Ok, Err, ℤ, refl, sym, ap, subst, ◌∙◌, inl, inr}
-use Rattle.std.specs.Prelude.{◌⊎◌, nat_lt, if◌then◌else◌}
+use Rattle.std.specs.Prelude.{nat_lt, if◌then◌else◌}
 use Rattle.std.specs.Result.{result_err}
 use Rattle.semantics.specs.Files.{Files, IfTold, file_of, with_file}
 use Rattle.series_csv.specs.Column.{column_of}
 use Rattle.store_file.specs.Added.{IsAddable}
 use Rattle.store_file.specs.StoreValue.{StoreValue, store_image}
 use Rattle.store_file.proofs.ImageLaws.{images-differ}
-use Rattle.query_cli.specs.Answers.{Loaded, loaded_in, loaded_by, checked_by, summed_by, summed_in, refusal_of, store_after, files_after, files_after_load}
+use Rattle.query_cli.specs.Answers.{Loaded, loaded_in, loaded_by, refusal_of, store_after, files_after, files_after_load}
 use Rattle.query_cli.specs.Causes.{IsCause, IsDone}
-use Rattle.query_cli.specs.Commands.{Command, LoadCommand, CheckCommand, OnceCommand, load, check, once}
+use Rattle.query_cli.specs.Commands.{LoadCommand, load}
 use Rattle.query_cli.specs.Loads.{Loads}
-use Rattle.query_cli.specs.Refusals.{Refusal, read_fault, replace_fault, too_big, bad_csv, IsOfRoom, IsOfLoaded, IsOfStore, IsOfColumn, IsOfSummed}
+use Rattle.query_cli.specs.Refusals.{Refusal, replace_fault, too_big, bad_csv, IsOfRoom, IsOfLoaded, IsOfColumn}
 use Rattle.query_cli.specs.Replay.{Accepted, adds, step, replay, IsHistory, AddsColumn}
-use Rattle.query_cli.specs.Steps.{and_then, bytes_within, refused_as, file_in, most_csv, most_store, store_in, room_in, column_in}
-use Rattle.query_cli.specs.Stops.{IfRefused, IsReplyOf, IsStepRefusal, IsUnread}
+use Rattle.query_cli.specs.Steps.{bytes_within, refused_as, file_in, most_csv, most_store, store_in, room_in, column_in}
+use Rattle.query_cli.specs.Stops.{IfRefused, IsStepRefusal}
 use Rattle.query_cli.proofs.ReplayLaws.{replay-more, IsHistory-more, histories-make-stores}
-use Rattle.query_cli.specs.declared.refusal.Reply.{Reply}
 use Rattle.query_cli.specs.declared.refusal.Stop.{Stop}
 use Rattle.query_cli.specs.declared.refusal.Stop.TheVariants as stop
 

@@ -5,7 +5,7 @@ use Rattle.std.specs.Result.{result_err}
 use Rattle.semantics.specs.Files.{Files, IfTold, file_of, with_file}
 use Rattle.semantics.specs.Readings.{from_zero, plain_sum}
 use Rattle.store_file.specs.StoreValue.{Series, StoreValue, IsStoreValue, count_of, store_image}
-use Rattle.query_cli.specs.Commands.{Command, OnceCommand, NewCommand, LoadCommand, CheckCommand, once, new_store, load, check, query, is_reader, is_writer}
+use Rattle.query_cli.specs.Commands.{Command, OnceCommand, LoadCommand, CheckCommand, once, new_store, load, check, query, is_reader, is_writer}
 use Rattle.query_cli.specs.Cuts.{Row, IsCut, low_end, high_end, width, opened_in}
 use Rattle.query_cli.specs.Descents.{IsLast}
 use Rattle.query_cli.specs.Lines.{answer_line, new_line, loaded_line, ok_line, line_of}

@@ -1,10 +1,10 @@
 -- What a store file stands for after the commands that were accepted.
-use Rattle.std.specs.Prelude.{◌≡◌, ℕ, ◌≤◌, ℤ, List, [], ◌∷◌, ◌++◌, Option, Some, None, Result, Ok}
+use Rattle.std.specs.Prelude.{◌≡◌, ℕ, ◌≤◌, ℤ, List, [], ◌∷◌, ◌++◌, Option, Some, None, Ok}
 use Rattle.semantics.specs.Files.{Files, file_of, with_file}
 use Rattle.series_csv.specs.Column.{column_of}
 use Rattle.store_file.specs.Added.{IsAddable, with_series}
 use Rattle.store_file.specs.StoreValue.{StoreValue, IsStoreValue, store_image}
-use Rattle.query_cli.specs.Commands.{Command, LoadCommand, NewCommand, once, new_store, load, check, query, most_scale, most_degree}
+use Rattle.query_cli.specs.Commands.{Command, LoadCommand, once, new_store, load, check, query, most_scale, most_degree}
 
 -- an accepted command, with what it brings: a new store of a scale and a degree; a series with its readings
 pub data Accepted : Type 0 where
@@ -74,3 +74,7 @@ IsReplayed old (Some (query c)) now = Unit {0}
 -- every history makes a store
 abbrev pub HistoriesMakeStores : Type 0
 HistoriesMakeStores = (h : List Accepted) → IsHistory h → IsStoreValue (replay h)
+
+-- a history goes on with each command that its store accepts
+abbrev pub HistoriesGoOn : Type 0
+HistoriesGoOn = (h : List Accepted) (c : Accepted) → IsHistory h → IsAccepted (replay h) c → IsHistory (h ++ c ∷ [])

@@ -7,6 +7,7 @@ mod command;
 mod cut;
 mod descent;
 mod files;
+mod laws;
 mod load;
 mod names;
 mod new;
@@ -23,5 +24,6 @@ mod words;
 mod written;
 
 pub use descent::{every_budget_is_met, every_cut_holds_the_sum};
+pub use laws::{histories_make_stores, stores_are_accepted};
 pub use status::Status;
 pub use top::run;

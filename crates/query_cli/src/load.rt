@@ -55,12 +55,7 @@ fn added(alloc: Global, store: &mut Store, name: Name, xs: &[i32]) -> Result<Wri
 }
 
 // What is written, by the bytes of the two files.
-fn loaded(
-    alloc: Global,
-    command: &Load<'_>,
-    stored: &[u8],
-    text: &[u8],
-) -> Result<Written, Stop>
+fn loaded(alloc: Global, command: &Load<'_>, stored: &[u8], text: &[u8]) -> Result<Written, Stop>
     requires stored { length stored.now ≤ most_store }
     requires text { length text.now ≤ most_csv }
     ensures ok { IfOk result (λ w. Loads (load_view command.now) stored.now text.now (string_bytes w.line) w.bytes.items) }

@@ -134,11 +134,14 @@ fn answer_in_file(alloc: Global, command: &Once<'_>, bytes: &[u8]) -> Result<Str
     let xs = readings_of(alloc, bytes, command.column, command.scale)?;
     let n = xs.len() as u32;
     if !is_range(n, command.from, command.until) {
-        return Err(refuse(alloc, &Refusal::Domain {
-            sum: 1,
-            lo: 0,
-            hi: i64::from(n),
-        }));
+        return Err(refuse(
+            alloc,
+            &Refusal::Domain {
+                sum: 1,
+                lo: 0,
+                hi: i64::from(n),
+            },
+        ));
     }
     match sum_line(alloc, command, &xs) {
         Ok(text) => Ok(text),

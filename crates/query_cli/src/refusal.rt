@@ -81,12 +81,7 @@ fn line_of_csv(alloc: Global, e: CsvErr) -> Result<String, AllocError>
     }
 }
 
-fn line_of_node(
-    alloc: Global,
-    name: &Name,
-    start: u32,
-    len: u32,
-) -> Result<String, AllocError>
+fn line_of_node(alloc: Global, name: &Name, start: u32, len: u32) -> Result<String, AllocError>
     ensures { IfOk result (λ t. string_bytes t ≡ store_line (StoreErr.BadNode name.now start len)) }
 {
     let name = name_text(name);

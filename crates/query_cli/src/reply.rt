@@ -20,11 +20,7 @@ use outside::Shelf;
 use std::alloc::{AllocError, Global};
 
 // The text of the answer to the words, or why there is none.
-fn answer<S: Shelf>(
-    alloc: Global,
-    words: &[String],
-    shelf: &mut S,
-) -> Result<String, Stop>
+fn answer<S: Shelf>(alloc: Global, words: &[String], shelf: &mut S) -> Result<String, Stop>
     ensures done { IfOk result (λ t. IsDone (S.files shelf.old) (S.files shelf.new) (command_in words.now) (string_bytes t)) }
     ensures cause { IfErr result (λ s. IfRefused s (IsCause (S.files shelf.old) (command_in words.now))) }
     ensures kept { OnErr result (S.files shelf.new ≡ S.files shelf.old) }

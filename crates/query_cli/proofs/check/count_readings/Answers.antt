@@ -1,4 +1,4 @@
-use Rattle.std.proofs.Common.{◌≡◌, ◌+◌, ◌*◌, ◌^◌, ◌≤◌, suc, drop, add-one, arith}
+use Rattle.std.proofs.Common.{◌≡◌, ◌+◌, ◌^◌, ◌≤◌, suc, drop, add-one, arith}
 use Rattle.expr.specs.Facts.{facts_of}
 use Rattle.query_cli.specs.Counts.{counted}
 use Rattle.query_cli.proofs.CountLaws.{counted-drop, small-count}

@@ -1,5 +1,4 @@
 use Rattle.std.proofs.lemmas.Result.{err_from_is_err_and}
-use Rattle.query_cli.specs.Loads.{Loads}
 use Rattle.query_cli.specs.Views.{load_view}
 use Rattle.query_cli.proofs.StepLaws.{load_refused, load_fault, load_done}
 use Rattle.query_cli.proofs.load.load_series.Goals as goal

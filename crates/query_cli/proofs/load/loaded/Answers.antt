@@ -1,7 +1,6 @@
 use Rattle.std.proofs.Common.{refl, ◌∙◌}
 use Rattle.std.proofs.lemmas.Result.{err_from_is_err_and}
 use Rattle.store_file.specs.Stored.{store_value}
-use Rattle.query_cli.specs.Loads.{Loads}
 use Rattle.query_cli.specs.Views.{load_view}
 use Rattle.query_cli.proofs.StepLaws.{room_refused, loaded-by}
 use Rattle.query_cli.proofs.load.loaded.Goals as goal

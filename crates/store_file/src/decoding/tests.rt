@@ -83,10 +83,7 @@ fn refuses_other_lengths(rt: HostRuntime) -> Result<(), Fail> {
         );
     }
     bytes.push(0)?;
-    assert_eq!(rt;
-        decode(alloc, &bytes).err(),
-        Some(StoreErr::NotAStore(14))
-    );
+    assert_eq!(rt; decode(alloc, &bytes).err(), Some(StoreErr::NotAStore(14)));
     Ok(())
 }
 

@@ -1,3 +1,4 @@
+pub mod Adopted
 pub mod Added
 pub mod Extended
 pub mod ReachedNodes

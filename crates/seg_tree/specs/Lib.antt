@@ -1,3 +1,4 @@
+pub mod Adopted
 pub mod Held
 pub mod Linked
 pub mod Reached

@@ -1,13 +1,16 @@
-ghost use Rattle.std.specs.Prelude.{◌≡◌, ◌+◌, ◌^◌, ◌<◌, ◌≤◌, ◌↔◌, length, map, [], IfOk, OnOk, OnErr};
+ghost use Rattle.std.specs.Prelude.{◌≡◌, ◌+◌, ◌^◌, ◌<◌, ◌≤◌, ◌↔◌, length, map, [], Option, IsTrue, IfOk, OnOk, OnErr};
 ghost use Rattle.segment.specs.Fit.{fit_over};
 ghost use Rattle.segment.specs.Measure.{AreReadings};
 ghost use Rattle.segment.specs.Shape.{node_count, shape};
-ghost use Rattle.segment.specs.Tree.{fitted_series, all_readings, all_segs};
-ghost use Rattle.seg_tree.specs.Linked.{Extends};
+ghost use Rattle.segment.specs.Tree.{SegTree, fitted_series, all_readings, all_segs};
+ghost use Rattle.seg_tree.specs.Adopted.{HaveTree, IsTreeWith};
+ghost use Rattle.seg_tree.specs.Linked.{Extends, node_at};
 ghost use Rattle.seg_tree.specs.Trees.{IsTreeOf, value_of};
 
 use crate::Node;
+use crate::adopting::adopt_tree;
 use crate::building::add_tree;
+use crate::nodes::nodes_for;
 use crate::reading::{push_readings, push_segs};
 use num_text::Memory;
 use segment::Seg;
@@ -85,21 +88,67 @@ impl Arena {
         ensures full { (result ≡ Err TreeErr.ArenaFull) ↔ ((length xs.now ≤ 2 ^ 20) × (self.old.limit < length self.old.nodes + node_count (length xs.now))) }
         ensures err { OnErr result (self.new ≡ self.old) }
     {
-        let held = self.nodes.len() as u32;
         if xs.len() > 1 << 20 {
             return Err(TreeErr::TooLong);
         }
         let n = xs.len() as u32;
+        if !self.has_room(n) {
+            return Err(TreeErr::ArenaFull);
+        }
         if xs.is_empty() {
             return Ok(Tree { root: None, n });
-        }
-        if self.limit < held + nodes_for(n) {
-            return Err(TreeErr::ArenaFull);
         }
         match add_tree(&mut self.nodes, xs, self.degree) {
             Ok(tree) => Ok(tree),
             Err(_) => Err(TreeErr::Memory),
         }
+    }
+
+    /// Adds the tree that has these segments in preorder over the readings of a series.
+    pub fn adopt(&mut self, segs: &[Seg], xs: &[i32]) -> Result<Tree, TreeErr>
+        requires { HaveTree segs.now xs.now }
+        ensures tree { IfOk result (λ t. IsTreeOf self.new.nodes t) }
+        ensures len { IfOk result (λ t. t.n ≡ length xs.now) }
+        ensures segs { IfOk result (λ t. all_segs (value_of self.new.nodes t) ≡ segs.now) }
+        ensures readings { IfOk result (λ t. all_readings (value_of self.new.nodes t) ≡ xs.now) }
+        ensures value { IfOk result (λ t. (whole : Option SegTree) → IsTreeWith segs.now xs.now whole → value_of self.new.nodes t ≡ whole) }
+
+        ensures extends { Extends self.old.nodes self.new.nodes }
+        ensures count { OnOk result (length self.new.nodes ≡ length self.old.nodes + node_count (length xs.now)) }
+        ensures degree { self.new.degree ≡ self.old.degree }
+        ensures limit { self.new.limit ≡ self.old.limit }
+
+        ensures too_long { result ≡ Err TreeErr.TooLong → ⊥ }
+        ensures full { (result ≡ Err TreeErr.ArenaFull) ↔ (self.old.limit < length self.old.nodes + node_count (length xs.now)) }
+        ensures err { OnErr result (self.new ≡ self.old) }
+    {
+        let n = xs.len() as u32;
+        if !self.has_room(n) {
+            return Err(TreeErr::ArenaFull);
+        }
+        if xs.is_empty() {
+            return Ok(Tree { root: None, n });
+        }
+        match adopt_tree(&mut self.nodes, segs, xs) {
+            Ok(tree) => Ok(tree),
+            Err(_) => Err(TreeErr::Memory),
+        }
+    }
+
+    /// Whether the nodes of a tree over `n` readings stay within the limit.
+    fn has_room(&self, n: u32) -> bool
+        requires { n ≤ 2 ^ 20 }
+        ensures { IsTrue result ↔ (length self.now.nodes + node_count n ≤ self.now.limit) }
+    {
+        self.nodes.len() as u32 + nodes_for(n) <= self.limit
+    }
+
+    /// The node at a place.
+    pub fn node(&self, place: u32) -> &Node
+        requires { place < length self.now.nodes }
+        ensures { result.now ≡ node_at self.now.nodes place }
+    {
+        &self.nodes[place as usize]
     }
 
     /// The readings of a tree in order.
@@ -131,14 +180,4 @@ impl Arena {
         }
         Ok(segs)
     }
-}
-
-/// How many nodes the tree over `n` readings has.
-fn nodes_for(n: u32) -> u32
-    requires some { 0 < n }
-    requires few { n ≤ 2 ^ 20 }
-    ensures value { result ≡ node_count n }
-    ensures bound { result ≤ 2 ^ 17 }
-{
-    2 * n.div_ceil(16) - 1
 }

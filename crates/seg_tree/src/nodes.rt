@@ -1,4 +1,5 @@
 ghost use Rattle.std.specs.Prelude.{◌≡◌, ◌+◌, ◌^◌, ◌<◌, ◌≤◌, length, take, [], ◌∷◌, ◌++◌, IfOk, OnErr};
+ghost use Rattle.segment.specs.Shape.{node_count};
 ghost use Rattle.seg_tree.specs.Linked.{node_at, IsFork, left_child, right_child};
 
 use segment::Seg;
@@ -20,6 +21,34 @@ pub enum Below {
     Children(u32, u32),
 }
 
+impl Below {
+    ghost use Rattle.seg_tree.specs.Linked.{IsFork, IsLeaf, kept, left_child, right_child};
+
+    /// The readings of a leaf that has `len` of them.
+    pub fn readings(&self, len: u32) -> &[i32]
+        requires short { len ≤ 16 }
+        requires leaf { IsLeaf len self.now }
+        ensures { result.now ≡ take len (kept self.now) }
+    {
+        match self {
+            Below::Readings(xs) => &xs[..len as usize],
+            Below::Children(_, _) => unreachable!(),
+        }
+    }
+
+    /// The places of a fork's children.
+    pub fn children(&self) -> (u32, u32)
+        requires { IsFork self.now }
+        ensures left { result.0 ≡ left_child self.now }
+        ensures right { result.1 ≡ right_child self.now }
+    {
+        match *self {
+            Below::Children(left, right) => (left, right),
+            Below::Readings(_) => unreachable!(),
+        }
+    }
+}
+
 /// Adds a node, and answers its place.
 pub(crate) fn push(nodes: &mut Vec<Node>, node: Node) -> Result<u32, AllocError>
     requires { length nodes.old.items < 2 ^ 32 }
@@ -38,10 +67,7 @@ pub(crate) fn children(nodes: &[Node], place: u32) -> (u32, u32)
     ensures left { result.0 ≡ left_child (node_at nodes.now place).below }
     ensures right { result.1 ≡ right_child (node_at nodes.now place).below }
 {
-    match nodes[place as usize].below {
-        Below::Children(left, right) => (left, right),
-        Below::Readings(_) => unreachable!(),
-    }
+    nodes[place as usize].below.children()
 }
 
 /// A leaf's readings, with 0 behind them.
@@ -53,4 +79,13 @@ pub(crate) fn block(xs: &[i32]) -> [i32; 16]
     let mut items = [0; 16];
     items[..xs.len()].copy_from_slice(xs);
     items
+}
+
+/// How many nodes the tree over `n` readings has.
+pub(crate) fn nodes_for(n: u32) -> u32
+    requires { n ≤ 2 ^ 20 }
+    ensures value { result ≡ node_count n }
+    ensures bound { result ≤ 2 ^ 17 }
+{
+    (2 * n.div_ceil(16)).saturating_sub(1)
 }

@@ -3,8 +3,8 @@ ghost use Rattle.segment.specs.Shape.{plan};
 ghost use Rattle.segment.specs.Tree.{segs_of, readings_of};
 ghost use Rattle.seg_tree.specs.Linked.{IsLinked, IsLeaf, kept, node_at, tree_at};
 
+use crate::Node;
 use crate::nodes::children;
-use crate::{Below, Node};
 use segment::{Seg, split};
 use std::alloc::AllocError;
 
@@ -48,7 +48,7 @@ pub(crate) fn push_readings(
 {
     match split(len) {
         None => {
-            push_leaf(&nodes[place as usize].below, len, into)?;
+            into.extend_from_slice(nodes[place as usize].below.readings(len))?;
             Ok(())
         }
         Some(s) => {
@@ -57,20 +57,5 @@ pub(crate) fn push_readings(
             push_readings(nodes, right, start + s, len - s, into)?;
             Ok(())
         }
-    }
-}
-
-/// Appends a leaf's readings.
-fn push_leaf(below: &Below, len: u32, into: &mut Vec<i32>) -> Result<(), AllocError>
-    requires short { len ≤ 16 }
-    requires held { IsLeaf len below.now }
-    ensures { OnOk result (into.new.items ≡ into.old.items ++ take len (kept below.now)) }
-{
-    match below {
-        Below::Readings(xs) => {
-            into.extend_from_slice(&xs[..len as usize])?;
-            Ok(())
-        }
-        Below::Children(_, _) => unreachable!(),
     }
 }

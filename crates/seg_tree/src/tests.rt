@@ -87,3 +87,36 @@ fn hands_out_the_nodes(rt: HostRuntime) -> Result<(), TreeErr> {
     assert_eq!(rt; (n, xs[0]), (1, 7));
     Ok(())
 }
+
+#[test]
+fn adopts_a_built_tree(rt: HostRuntime) -> Result<(), TreeErr> {
+    assert!(rt; are_readings(&READINGS));
+    let mut built = Arena::new(rt.alloc(), 0, 64);
+    let tree = built.build(&READINGS)?;
+    let Ok(segs) = built.segs_of(tree) else {
+        return Err(TreeErr::Memory)
+    };
+    let Ok(xs) = built.readings_of(tree) else {
+        return Err(TreeErr::Memory)
+    };
+
+    let mut arena = Arena::new(rt.alloc(), 0, 5);
+    let adopted = arena.adopt(&segs, &xs)?;
+    assert_eq!(rt;
+        adopted,
+        Tree {
+            root: Some(4),
+            n: 33
+        }
+    );
+    assert_eq!(rt; arena.adopt(&segs, &xs), Err(TreeErr::ArenaFull));
+    let Ok(told) = arena.segs_of(adopted) else {
+        return Err(TreeErr::Memory)
+    };
+    assert_eq!(rt; told.as_slice(), segs.as_slice());
+    let Ok(read) = arena.readings_of(adopted) else {
+        return Err(TreeErr::Memory)
+    };
+    assert_eq!(rt; read.as_slice(), READINGS.as_slice());
+    Ok(())
+}

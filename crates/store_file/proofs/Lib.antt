@@ -2,5 +2,6 @@ pub mod AddedLaws
 pub mod FactLaws
 pub mod HeaderLaws
 pub mod ImageLaws
-pub mod PieceLaws
 pub mod StoredLaws
+pub mod TreeImages
+pub mod Worked

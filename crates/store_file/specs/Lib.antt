@@ -1,6 +1,6 @@
 pub mod Added
 pub mod Facts
 pub mod Header
-pub mod Parts
 pub mod StoreValue
 pub mod Stored
+pub mod Worked

@@ -2,6 +2,7 @@ ghost use Rattle.store_file.specs.Added.{AddingKeepsStores, RoomIsEnough};
 ghost use Rattle.store_file.specs.Facts.{StoresHaveFacts};
 ghost use Rattle.store_file.specs.Header.{FixedReadsBack, EntryReadsBack};
 ghost use Rattle.store_file.specs.StoreValue.{ImagesDiffer};
+ghost use Rattle.store_file.specs.Worked.{OneReadingIs, TurnsAre};
 
 /// Two stores never have the same bytes.
 pub fn images_differ()
@@ -12,6 +13,12 @@ pub fn images_differ()
 pub fn headers_keep()
     ensures fixed { FixedReadsBack }
     ensures entry { EntryReadsBack }
+{}
+
+/// The bytes of two small stores: one reading 7, and 32 readings, 0 and 10 in turn.
+pub fn small_stores_have_bytes()
+    ensures one { OneReadingIs }
+    ensures turns { TurnsAre }
 {}
 
 /// A store with one more series, where it may have one, is a store again.

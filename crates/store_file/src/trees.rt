@@ -1,10 +1,11 @@
-ghost use Rattle.std.specs.Prelude.{◌≡◌, ◌+◌, ◌≤◌, ◌<◌, ◌∷◌, ◌++◌, length, take, drop, OnOk};
+ghost use Rattle.std.specs.Prelude.{◌≡◌, ◌+◌, ◌^◌, ◌≤◌, ◌<◌, ◌++◌, length, drop, OnOk};
+ghost use Rattle.seg_tree.specs.Linked.{IsLinked, tree_at};
 ghost use Rattle.seg_tree.specs.Trees.{IsTreeOf, value_of};
-ghost use Rattle.store_file.specs.Parts.{piece, pieces, AreWithin};
+ghost use Rattle.segment.specs.Shape.{plan};
 ghost use Rattle.store_file.specs.StoreValue.{tree_image, trees_image};
 ghost use Rattle.store_file.specs.Stored.{series_of, AreOf};
 ghost use Rattle.tree_file.specs.Bytes.{bytes_of, wrapped};
-ghost use Rattle.tree_file.specs.Image.{words};
+ghost use Rattle.tree_file.specs.Image.{image, words};
 ghost use Rattle.tree_file.specs.Record.{record_of};
 
 use crate::Stored;
@@ -13,12 +14,9 @@ use expr::Name;
 use indexmap::IndexMap;
 use num_text::Memory;
 use seg_tree::{Arena, Tree};
-use segment::Seg;
+use segment::{Seg, split};
 use std::alloc::AllocError;
 use tree_file::{put_signed, write_seg};
-
-/// A node of more readings is no leaf.
-const BLOCK: u32 = 16;
 
 /// Appends the trees of all series.
 pub(crate) fn push_trees(
@@ -41,55 +39,43 @@ fn push_tree(arena: &Arena, tree: Tree, into: &mut Vec<u8>) -> Result<(), Memory
     requires { IsTreeOf arena.now.nodes tree }
     ensures { OnOk result (into.new.items ≡ into.old.items ++ tree_image (value_of arena.now.nodes tree)) }
 {
-    let segs = arena.segs_of(tree)?;
-    let xs = arena.readings_of(tree)?;
-    match push_nodes(&segs, &xs, into) {
+    let Some(root) = tree.root else {
+        return Ok(());
+    };
+    match push_nodes(arena, root, 0, tree.n, into) {
         Ok(()) => Ok(()),
         Err(_) => Err(Memory),
     }
 }
 
-/// Appends nodes in preorder, each leaf's followed by its readings.
-fn push_nodes(segs: &[Seg], xs: &[i32], into: &mut Vec<u8>) -> Result<(), AllocError>
-    requires { AreWithin (length xs.now) segs.now }
-    ensures { OnOk result (into.new.items ≡ into.old.items ++ pieces xs.now segs.now) }
+/// Appends the nodes of the tree below a node that covers `len` readings from `start` on, in preorder, each leaf's
+/// followed by its readings.
+fn push_nodes(
+    arena: &Arena,
+    place: u32,
+    start: u32,
+    len: u32,
+    into: &mut Vec<u8>,
+) -> Result<(), AllocError>
+    requires few { start + len ≤ 2 ^ 20 }
+    requires some { 0 < len }
+    requires linked { IsLinked arena.now.nodes place (plan start len) }
+    ensures { OnOk result (into.new.items ≡ into.old.items ++ image (tree_at arena.now.nodes place (plan start len))) }
 {
-    for i in 0..segs.len() {
-        let seg = seg_at(segs, i);
-        push_node(&seg, xs, into)?;
+    let node = arena.node(place);
+    push_record(&node.seg, into)?;
+    match split(len) {
+        None => {
+            push_words(node.below.readings(len), into)?;
+            Ok(())
+        }
+        Some(s) => {
+            let (left, right) = node.below.children();
+            push_nodes(arena, left, start, s, into)?;
+            push_nodes(arena, right, start + s, len - s, into)?;
+            Ok(())
+        }
     }
-    Ok(())
-}
-
-fn seg_at(segs: &[Seg], place: usize) -> Seg
-    requires { place < length segs.now }
-    ensures { drop place segs.now ≡ result ∷ drop (place + 1) segs.now }
-{
-    segs[place]
-}
-
-/// Appends a node.
-fn push_node(seg: &Seg, xs: &[i32], into: &mut Vec<u8>) -> Result<(), AllocError>
-    requires { seg.now.start + seg.now.len ≤ length xs.now }
-    ensures { OnOk result (into.new.items ≡ into.old.items ++ piece xs.now seg.now) }
-{
-    push_record(seg, into)?;
-    if seg.len > BLOCK {
-        return Ok(());
-    }
-    let own = part(xs, seg.start as usize, seg.len as usize);
-    push_words(own, into)?;
-    Ok(())
-}
-
-/// Some of the readings.
-fn part(xs: &[i32], start: usize, len: usize) -> &[i32]
-    requires { start + len ≤ length xs.now }
-    ensures { result.now ≡ take len (drop start xs.now) }
-{
-    let (_, rest) = xs.split_at(start);
-    let (front, _) = rest.split_at(len);
-    front
 }
 
 /// Appends the record of a node.

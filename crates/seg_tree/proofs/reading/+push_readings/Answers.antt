@@ -1,4 +1,4 @@
-use Rattle.std.proofs.Common.{arith}
+use Rattle.std.proofs.Common.{arith, ap, ◌∙◌, ◌++◌}
 use Rattle.segment.specs.Shape.{IsSplit}
 use Rattle.seg_tree.proofs.Extended.{IsLinked-within, leaf_at, fork_at, readings_leaf, readings_fork}
 use Rattle.seg_tree.proofs.reading.+push_readings.Goals as goal
@@ -24,11 +24,13 @@ push_readings-requires-in-Some t c =
     let at = fork_at c.args.nodes.now c.args.place c.args.start c.args.len c.in-Some.s split c.requires.linked in
     (omega (arith, c.decreases, split.below, split.greatest), (omega (arith, split.below), (omega (arith, split.below), rw (c.children-left.ensures.right) at.right)))
 
-pub push_leaf-requires-clause-held : goal.push_leaf-requires-clause-held
-push_leaf-requires-clause-held t c = (leaf_at _ _ _ _ c.in-None.ensures c.requires.linked).at_end
+pub readings-requires-clause-leaf : goal.readings-requires-clause-leaf
+readings-requires-clause-leaf t c = (leaf_at _ _ _ _ c.in-None.ensures c.requires.linked).at_end
 
-pub returns-in_ok-push_leaf-in-None : goal.returns-in_ok-push_leaf-in-None
-returns-in_ok-push_leaf-in-None t c = readings_leaf c.args.nodes.now c.args.place c.args.start c.args.len _ _ (leaf_at _ _ _ _ c.in-None.ensures c.requires.linked) c.in_ok-push_leaf-in-None.ensures
+pub returns-in_ok-extend_from_slice-in-None : goal.returns-in_ok-extend_from_slice-in-None
+returns-in_ok-extend_from_slice-in-None t c =
+    readings_leaf c.args.nodes.now c.args.place c.args.start c.args.len _ _ (leaf_at _ _ _ _ c.in-None.ensures c.requires.linked)
+    (c.in_ok-extend_from_slice-in-None.ensures.items ∙ ap (λ xs. c.args.into.now.items ++ xs) c.readings.ensures)
 
 pub returns-in_ok-push_readings-in-Some-2 : goal.returns-in_ok-push_readings-in-Some-2
 returns-in_ok-push_readings-in-Some-2 t c =

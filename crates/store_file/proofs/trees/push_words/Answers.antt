@@ -1,5 +1,5 @@
 use Rattle.std.proofs.Common.{arith}
-use Rattle.store_file.proofs.PieceLaws.{words-step, words-end}
+use Rattle.store_file.proofs.TreeImages.{words-step, words-end}
 use Rattle.store_file.proofs.trees.push_words.Goals as goal
 
 pub loop-i-preserved : goal.loop-i-preserved

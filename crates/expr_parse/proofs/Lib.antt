@@ -1,5 +1,10 @@
 pub mod Appended
 pub mod Bounds
+pub mod CanonicalNesting
+pub mod CanonicalParsed
+pub mod CanonicalSaid
+pub mod CanonicalShort
+pub mod CanonicalTokens
 pub mod Found
 pub mod FoundQuery
 pub mod Passes

@@ -4,6 +4,7 @@ pub mod Magnitudes
 pub mod Nesting
 pub mod Parsed
 pub mod Pending
+pub mod Printed
 pub mod QueryGrammar
 pub mod Reading
 pub mod SeriesGrammar

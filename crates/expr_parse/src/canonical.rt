@@ -1,10 +1,13 @@
 // The text that a query is printed as.
 
-ghost use Rattle.std.specs.Prelude.{◌≡◌, ◌++◌, IfOk, OnOk};
+ghost use Rattle.std.specs.Prelude.{◌≡◌, ◌≤◌, ◌++◌, IfOk, Ok, OnOk, length};
 ghost use Rattle.std.specs.Fmt.{signed_decimal};
 ghost use Rattle.std.specs.Option.{option_map};
 ghost use Rattle.expr.specs.Terms.{query_term_of, range_of, term_of};
+ghost use Rattle.semantics.specs.Limits.{IsWithinLimits};
 ghost use Rattle.semantics.specs.Term.{constant, covariance, sum, variance};
+ghost use Rattle.expr_parse.specs.Parsed.{parsed};
+ghost use Rattle.expr_parse.specs.Printed.{CanonicalIsParsed, CanonicalIsShortest, CanonicalIsText, IsNamedQuery, IsNamedSeries, ParsedIsText};
 ghost use Rattle.expr_parse.specs.Canonical.{canonical_text, closed, ends_text, groups_product, groups_sum, opened, query_text, range_text, series_text};
 
 use expr::{Bounds, Query, Series};
@@ -116,7 +119,8 @@ fn write_constant(alloc: Global, into: &mut Vec<u8>, v: i128, bounds: Bounds) ->
 
 /// Appends the text of a series that stands in an operator of this level.
 fn write_series(alloc: Global, into: &mut Vec<u8>, level: Level, t: &Series) -> Result<(), Memory>
-    ensures { OnOk result (into.new.items ≡ into.old.items ++ series_text level (term_of t.now)) }
+    ensures appended { OnOk result (into.new.items ≡ into.old.items ++ series_text level (term_of t.now)) }
+    ensures named { OnOk result (IsNamedSeries (term_of t.now)) }
 {
     match t {
         Series::Base(name) => put_bytes(into, name.bytes()),
@@ -163,7 +167,8 @@ fn write_sum(
     t: &Series,
     bounds: Option<Bounds>,
 ) -> Result<(), Memory>
-    ensures { OnOk result (into.new.items ≡ into.old.items ++ query_text Level.OfSum (sum (term_of t.now) (option_map range_of bounds))) }
+    ensures appended { OnOk result (into.new.items ≡ into.old.items ++ query_text Level.OfSum (sum (term_of t.now) (option_map range_of bounds))) }
+    ensures named { OnOk result (IsNamedSeries (term_of t.now)) }
 {
     put(into, "sum(")?;
     write_series(alloc, into, Level::OfSum, t)?;
@@ -177,7 +182,8 @@ fn write_variance(
     t: &Series,
     bounds: Bounds,
 ) -> Result<(), Memory>
-    ensures { OnOk result (into.new.items ≡ into.old.items ++ query_text Level.OfSum (variance (term_of t.now) (range_of bounds))) }
+    ensures appended { OnOk result (into.new.items ≡ into.old.items ++ query_text Level.OfSum (variance (term_of t.now) (range_of bounds))) }
+    ensures named { OnOk result (IsNamedSeries (term_of t.now)) }
 {
     put(into, "varnum(")?;
     write_series(alloc, into, Level::OfSum, t)?;
@@ -192,7 +198,8 @@ fn write_covariance(
     u: &Series,
     bounds: Bounds,
 ) -> Result<(), Memory>
-    ensures { OnOk result (into.new.items ≡ into.old.items ++ query_text Level.OfSum (covariance (term_of t.now) (term_of u.now) (range_of bounds))) }
+    ensures appended { OnOk result (into.new.items ≡ into.old.items ++ query_text Level.OfSum (covariance (term_of t.now) (term_of u.now) (range_of bounds))) }
+    ensures named { OnOk result (IsNamedSeries (term_of t.now) × IsNamedSeries (term_of u.now)) }
 {
     put(into, "covnum(")?;
     write_series(alloc, into, Level::OfSum, t)?;
@@ -204,7 +211,8 @@ fn write_covariance(
 
 /// Appends the text of a query that stands in an operator of this level.
 fn write_query(alloc: Global, into: &mut Vec<u8>, level: Level, q: &Query) -> Result<(), Memory>
-    ensures { OnOk result (into.new.items ≡ into.old.items ++ query_text level (query_term_of q.now)) }
+    ensures appended { OnOk result (into.new.items ≡ into.old.items ++ query_text level (query_term_of q.now)) }
+    ensures named { OnOk result (IsNamedQuery (query_term_of q.now)) }
 {
     match q {
         Query::Number(v) => write_i128(alloc, into, *v),
@@ -240,9 +248,33 @@ fn write_query(alloc: Global, into: &mut Vec<u8>, level: Level, q: &Query) -> Re
 
 /// The text of a query: no blanks, canonical digits, and parentheses only where the tree needs them.
 pub fn print(alloc: Global, q: &Query) -> Result<Vec<u8>, Memory>
-    ensures { IfOk result (λ text. text.items ≡ canonical_text (query_term_of q.now)) }
+    ensures canonical { IfOk result (λ text. text.items ≡ canonical_text (query_term_of q.now)) }
+
+    // It is parsed as the query again, where it is not too long.
+    ensures read_again { IfOk result (λ text.
+        IsWithinLimits (query_term_of q.now) → length text.items ≤ 4096 → parsed text.items ≡ Ok (query_term_of q.now)) }
 {
     let mut text = Vec::new(alloc);
     write_query(alloc, &mut text, Level::OfSum, q)?;
     Ok(text)
 }
+
+/// The grammar gives a query for its canonical text.
+pub fn canonical_is_text()
+    ensures { CanonicalIsText }
+{}
+
+/// A query within its limits is parsed from its canonical text.
+pub fn canonical_is_parsed()
+    ensures { CanonicalIsParsed }
+{}
+
+/// No text of a query is shorter than its canonical text.
+pub fn canonical_is_shortest()
+    ensures { CanonicalIsShortest }
+{}
+
+/// A text that is parsed as a query is a text of it.
+pub fn parsed_is_text()
+    ensures { ParsedIsText }
+{}

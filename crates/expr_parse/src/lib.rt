@@ -29,7 +29,9 @@ mod series;
 mod text;
 mod token;
 
-pub use canonical::print;
+pub use canonical::{
+    canonical_is_parsed, canonical_is_shortest, canonical_is_text, parsed_is_text, print,
+};
 pub use error::ParseErr;
 pub use text::{parse, tokens};
 pub use token::{Kind, Token};

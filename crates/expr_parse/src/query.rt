@@ -118,8 +118,8 @@ pub(crate) fn read_query<'a>(alloc: Global, ts: &'a [Lexeme]) -> Result<(Query, 
                 rest = after;
             }
             Some((Lexeme::Minus, more)) => {
-                let (right, after) = read_term(alloc, more)?;
-                left = difference_of(alloc, left, right)?;
+                let (subtracted, after) = read_term(alloc, more)?;
+                left = difference_of(alloc, left, subtracted)?;
                 rest = after;
             }
             _ => return Ok((left, rest)),

@@ -124,3 +124,16 @@ fn printed(rt: HostRuntime) -> Result<(), Fail> {
     }
     Ok(())
 }
+
+#[test]
+fn longest_chain(rt: HostRuntime) -> Result<(), Fail> {
+    let alloc = rt.alloc();
+    let mut text = Vec::new(alloc);
+    text.push(b'1').map_err(|_| "memory")?;
+    for _ in 0..2047 {
+        text.push(b'+').map_err(|_| "memory")?;
+        text.push(b'1').map_err(|_| "memory")?;
+    }
+    assert!(rt; parse(alloc, text.as_slice()).err() == Some(ParseErr::TooDeep));
+    Ok(())
+}

@@ -4,6 +4,7 @@ ghost use Rattle.std.specs.Prelude.{◌≡◌, ◌↔◌, ◌≤◌, ◌⊎◌, 
 ghost use Rattle.semantics.specs.Limits.{IsWithinLimits};
 ghost use Rattle.semantics.specs.Term.{QueryTerm};
 ghost use Rattle.expr.specs.Terms.{query_term_of};
+ghost use Rattle.expr_parse.specs.Canonical.{canonical_text};
 ghost use Rattle.expr_parse.specs.Lexemes.{lexeme_of};
 ghost use Rattle.expr_parse.specs.Parsed.{by_lexemes, parsed, place_of, IsTextOf};
 ghost use Rattle.expr_parse.specs.Pending.{query, sticks};
@@ -132,6 +133,9 @@ pub fn parse(alloc: Global, text: &[u8]) -> Result<Query, ParseErr>
     // The grammar gives this query for the text, and no other.
     ensures grammar { IfOk result (λ q. IsTextOf text.now (query_term_of q)) }
     ensures alone { IfOk result (λ q. (other : QueryTerm) → IsTextOf text.now other → other ≡ query_term_of q) }
+
+    // The canonical text is no longer.
+    ensures shortest { IfOk result (λ q. length (canonical_text (query_term_of q)) ≤ length text.now) }
 
     // Where a place is refused, the grammar gives none.
     ensures outside { IfErr result (λ e.

@@ -169,7 +169,7 @@ series_of-push old new [] name t ext are = refl
 series_of-push old new (e ∷ es) name t ext are =
     ap₂ (λ (k : Option SegTree) (q : List Series). record { name = e.0; tree = k } ∷ q) (value_of-Extends old new e.1.tree ext are.0) (series_of-push old new es name t ext are.1)
 
-keys-push : (es : List (List ℕ × Stored)) (name : List ℕ) (v : Stored) → keys_of (es ++ (name, v) ∷ []) ≡ keys_of es ++ name ∷ []
+pub keys-push : (es : List (List ℕ × Stored)) (name : List ℕ) (v : Stored) → keys_of (es ++ (name, v) ∷ []) ≡ keys_of es ++ name ∷ []
 keys-push [] name v = refl
 keys-push (e ∷ es) name v = ap (λ q. e.0 ∷ q) (keys-push es name v)
 

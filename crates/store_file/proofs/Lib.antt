@@ -1,7 +1,13 @@
 pub mod AddedLaws
+pub mod DecodedLaws
+pub mod EntryReading
 pub mod FactLaws
+pub mod GoodLaws
 pub mod HeaderLaws
 pub mod ImageLaws
+pub mod SeriesReading
 pub mod StoredLaws
 pub mod TreeImages
+pub mod TreeReading
+pub mod TruthLaws
 pub mod Worked

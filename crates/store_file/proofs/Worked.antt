@@ -8,9 +8,9 @@ use Rattle.segment.proofs.ShapeLaws.{plan-leaf, plan-fork}
 use Rattle.tree_file.specs.Bytes.{bytes_of, wrapped}
 use Rattle.tree_file.specs.Record.{record_of}
 use Rattle.store_file.specs.StoreValue.{StoreValue, header_of, store_image}
-use Rattle.store_file.specs.Worked.{store_with, turns, OneReadingIs, TurnsAre}
+use Rattle.store_file.specs.Worked.{store_with, turns, OneReadingHasBytes, TurnsHaveBytes}
 
-pub one-reading : OneReadingIs
+pub one-reading : OneReadingHasBytes
 unfolding store_image header_of record_of bytes_of wrapped flat_of line_of parabola_of miss reach spread plan plan_below
 one-reading = refl
 
@@ -42,6 +42,6 @@ turns-len : length turns_image ≡ 310
 unfolding turns_image two_blocks turns_by store_image header_of record_of bytes_of wrapped flat_of miss reach spread
 turns-len = refl
 
-pub turns-bytes : TurnsAre
+pub turns-bytes : TurnsHaveBytes
 unfolding turns_image two_blocks turns_by store_image header_of record_of bytes_of wrapped flat_of miss reach spread
 turns-bytes = record { len = ap length image-turns ∙ turns-len; root = ap (λ q. take 56 (drop 14 q)) image-turns }

@@ -1,6 +1,10 @@
 pub mod Added
+pub mod Decoded
 pub mod Facts
+pub mod Good
 pub mod Header
+pub mod Laws
+pub mod Restored
 pub mod StoreValue
 pub mod Stored
 pub mod Worked

@@ -1,9 +1,10 @@
 -- What a store means.
-use Rattle.std.specs.Prelude.{◌≡◌, ℕ, ◌^◌, ◌≤◌, List, [], ◌∷◌, ◌++◌, length}
+use Rattle.std.specs.Prelude.{◌≡◌, ℕ, ◌+◌, ◌^◌, ◌≤◌, List, [], ◌∷◌, ◌++◌, length}
 use Rattle.std.specs.Map.{keys_of}
 use Rattle.seg_tree.specs.Held.{Held}
 use Rattle.seg_tree.specs.Trees.{IsTreeOf, value_of}
 use Rattle.seg_tree.specs.declared.nodes.Node.{Node}
+use Rattle.tree_file.specs.Image.{tree_size}
 use Rattle.store_file.specs.StoreValue.{Series, StoreValue, AreNames, entry_bytes}
 use Rattle.store_file.specs.declared.store.Stored.{Stored}
 
@@ -45,3 +46,8 @@ store_value s = record { scale = s.scale; degree = s.degree; series = series_of 
 abbrev pub stored_entries : List (List ℕ × Stored) → List ℕ
 stored_entries [] = []
 stored_entries (e ∷ es) = entry_bytes e.0 e.1.tree.n ++ stored_entries es
+
+-- how many bytes the trees of the entries have
+abbrev pub trees_size : List (List ℕ × Stored) → ℕ
+trees_size [] = 0
+trees_size (e ∷ es) = tree_size e.1.tree.n + trees_size es

@@ -8,8 +8,8 @@ abbrev pub store_with : List ℤ → StoreValue
 store_with xs = record { scale = 0; degree = 0; series = record { name = codes "x"; tree = fitted_series 0 xs } ∷ [] }
 
 -- the one reading 7: the fixed part, the entry, the record (`a`, `b` and `c`, `l`, `d`, `f`), the reading
-abbrev pub OneReadingIs : Type 0
-OneReadingIs = store_image (store_with (pos 7 ∷ []))
+abbrev pub OneReadingHasBytes : Type 0
+OneReadingHasBytes = store_image (store_with (pos 7 ∷ []))
     ≡ (80 ∷ 76 ∷ 65 ∷ 84 ∷ 1 ∷ 0 ∷ 0 ∷ 1 ∷ [])
     ++ (1 ∷ 120 ∷ 0 ∷ 0 ∷ 0 ∷ 1 ∷ [])
     ++ (0 ∷ 0 ∷ 0 ∷ 0 ∷ 0 ∷ 1 ∷ 192 ∷ 0 ∷ [])
@@ -29,7 +29,7 @@ abbrev pub record_at : ℕ → StoreValue → List ℕ
 record_at place m = take 56 (drop place (store_image m))
 
 -- 32 readings, 0 and 10 in turn: how many bytes, and the record of the root
-pub record TurnsAre : Type 0 where
+pub record TurnsHaveBytes : Type 0 where
   pub len : length (store_image (store_with (turns 16))) ≡ 310
   pub root : record_at 14 (store_with (turns 16))
       ≡ (0 ∷ 0 ∷ 0 ∷ 0 ∷ 0 ∷ 1 ∷ 64 ∷ 0 ∷ [])

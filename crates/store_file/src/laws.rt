@@ -2,7 +2,7 @@ ghost use Rattle.store_file.specs.Added.{AddingKeepsStores, RoomIsEnough};
 ghost use Rattle.store_file.specs.Facts.{StoresHaveFacts};
 ghost use Rattle.store_file.specs.Header.{FixedReadsBack, EntryReadsBack};
 ghost use Rattle.store_file.specs.StoreValue.{ImagesDiffer};
-ghost use Rattle.store_file.specs.Worked.{OneReadingIs, TurnsAre};
+ghost use Rattle.store_file.specs.Worked.{OneReadingHasBytes, TurnsHaveBytes};
 
 /// Two stores never have the same bytes.
 pub fn images_differ()
@@ -17,8 +17,8 @@ pub fn headers_keep()
 
 /// The bytes of two small stores: one reading 7, and 32 readings, 0 and 10 in turn.
 pub fn small_stores_have_bytes()
-    ensures one { OneReadingIs }
-    ensures turns { TurnsAre }
+    ensures one { OneReadingHasBytes }
+    ensures turns { TurnsHaveBytes }
 {}
 
 /// A store with one more series, where it may have one, is a store again.

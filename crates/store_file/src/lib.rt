@@ -2,6 +2,8 @@
 #![tactic(auto)]
 
 mod adding;
+mod decoding;
+mod entry_reading;
 mod facts;
 mod header;
 mod laws;
@@ -9,9 +11,12 @@ mod reading;
 mod store;
 #[cfg(test)]
 mod tests;
+mod tree_reading;
 mod trees;
+mod truth;
 
 pub use adding::SeriesErr;
+pub use decoding::{StoreErr, bytes_decode, decode};
 pub use header::{Entry, Fixed};
 pub use laws::{
     adding_keeps_stores, headers_keep, images_differ, room_is_enough, small_stores_have_bytes,

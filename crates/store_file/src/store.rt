@@ -1,6 +1,6 @@
 ghost use Rattle.std.specs.Prelude.{◌≡◌, ◌+◌, ◌^◌, ◌≤◌, ◌<◌, ◌∷◌, [], length, drop, Ok, IfOk};
 ghost use Rattle.store_file.specs.StoreValue.{header_of, store_image, IsStoreValue};
-ghost use Rattle.store_file.specs.Stored.{store_value, AreShort};
+ghost use Rattle.store_file.specs.Stored.{store_value, AreShort, trees_size};
 
 use crate::header::push_header;
 use crate::trees::push_trees;
@@ -21,7 +21,7 @@ pub struct Stored {
 /// Series by name, in order of loading, and the nodes of their trees.
 #[derive(Drop)]
 pub struct Store {
-    alloc: Global,
+    pub(crate) alloc: Global,
     /// How many digits after the point a reading has.
     pub scale: u8,
     /// The degree up to which nodes are fitted, which is that of the arena.
@@ -96,7 +96,8 @@ const HEADER: usize = 600;
 fn trees_len(series: &IndexMap<Name, Stored>) -> usize
     requires few { length series.now.entries ≤ 16 }
     requires short { AreShort series.now.entries }
-    ensures { result ≤ 2 ^ 28 }
+    ensures size { result ≡ trees_size series.now.entries }
+    ensures bound { result ≤ 2 ^ 28 }
 {
     let mut len = 0;
     for i in 0..series.len() {

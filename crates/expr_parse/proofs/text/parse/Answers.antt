@@ -1,4 +1,5 @@
 use Rattle.std.proofs.Common.{◌∙◌}
+use Rattle.expr_parse.proofs.CanonicalShort.{canonical_is_shortest}
 use Rattle.std.proofs.lemmas.Result.{err_from_is_err_and}
 use Rattle.expr_parse.proofs.Whole.{is_text_of, text_alone, text_outside, text_refused}
 use Rattle.expr_parse.proofs.text.parse.Goals as goal
@@ -18,3 +19,6 @@ returns-clause-grammar c = is_text_of c.args.text.now _ _ _ c.in_ok-found.ensure
 
 pub returns-clause-alone : goal.returns-clause-alone
 returns-clause-alone c = text_alone c.args.text.now _ _ _ c.in_ok-found.ensures.tokens (c.as_slice-said.ensures.value ∙ c.in_ok-found.ensures.lexemes) c.in_ok-q.ensures.grammar
+
+pub returns-clause-shortest : goal.returns-clause-shortest
+returns-clause-shortest c = canonical_is_shortest c.args.text.now _ (is_text_of c.args.text.now _ _ _ c.in_ok-found.ensures.tokens (c.as_slice-said.ensures.value ∙ c.in_ok-found.ensures.lexemes) c.in_ok-q.ensures.grammar)

@@ -9,7 +9,8 @@ use std::fs;
 use std::io::{ErrorKind, Read};
 use std::rt::Files;
 
-/// The files of the current folder. It tells none of them, and counts each error of the system.
+/// The files of the current folder. It tells none of them, and counts each error of the system. A file is written anew
+/// as NAME.new, which is then renamed over NAME; after a fault NAME.new may be left behind.
 #[derive(Drop)]
 pub struct DirShelf<'a, R: Files> {
     alloc: Global,

@@ -22,7 +22,7 @@ use Rattle.seg_tree.specs.declared.arena.TreeErr.TheVariants as tree
 use Rattle.seg_tree.proofs.Extended.{value_of-Extends, IsTreeOf-Extends}
 use Rattle.store_file.specs.StoreValue.{Series, AreNames, EachTree, count_of, has_name, name_of}
 use Rattle.store_file.specs.Stored.{series_of, AreOf, StoreParts, IsSound, store_value}
-use Rattle.store_file.specs.Added.{names_in, with_series, name_refusal, readings_refusal, first_refusal, add_refusal, series_err_of, AddingKeepsStores}
+use Rattle.store_file.specs.Added.{names_in, with_series, name_refusal, readings_refusal, first_refusal, add_refusal, series_err_of, AddingKeepsStores, RoomIsEnough}
 use Rattle.store_file.specs.declared.adding.SeriesErr.{SeriesErr}
 use Rattle.store_file.specs.declared.adding.SeriesErr.TheVariants as refusal
 use Rattle.store_file.specs.declared.store.Stored.{Stored}
@@ -143,6 +143,18 @@ add_refusal-built s name xs e new h = rw (add_refusal-readings s name xs new) (r
 
 pub readings_refusal-none : (s : StoreParts) (xs : List ℤ) → length xs ≤ 2 ^ 20 → length s.arena.nodes + node_count (length xs) ≤ s.arena.limit → readings_refusal s xs ≡ None
 readings_refusal-none s xs short room = rw (isnt_above (length xs) (2 ^ 20) short, isnt_above (length s.arena.nodes + node_count (length xs)) s.arena.limit room) refl
+
+nodes_few : (n : ℕ) → n ≤ 2 ^ 20 → node_count n ≤ 2 ^ 17
+nodes_few n h = omega arith
+
+pub room-is-enough : RoomIsEnough
+room-is-enough s name xs room short =
+    let none = readings_refusal-none s xs short (omega (arith, nodes_few (length xs) short, room)) in
+    rw none (first (name_refusal (store_value s) name))
+  where
+    first : (o : Option SeriesErr) → first_refusal o None ≡ o
+    first None = refl
+    first (Some e) = refl
 
 -- ---- what is stored
 

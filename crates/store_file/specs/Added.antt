@@ -57,3 +57,11 @@ pub record IsAddable (m : StoreValue) (name : List ℕ) (xs : List ℤ) : Type 0
 -- with such a series it is a store again
 abbrev pub AddingKeepsStores : Type 0
 AddingKeepsStores = (m : StoreValue) (name : List ℕ) (xs : List ℤ) → IsStoreValue m → IsAddable m name xs → IsStoreValue (with_series m name xs)
+
+-- room for the nodes of the longest series
+abbrev pub HasRoom : StoreParts → Type 0
+HasRoom s = length s.arena.nodes + 2 ^ 17 ≤ s.arena.limit
+
+-- with room only the name of a short series may be refused
+abbrev pub RoomIsEnough : Type 0
+RoomIsEnough = (s : StoreParts) (name : List ℕ) (xs : List ℤ) → HasRoom s → length xs ≤ 2 ^ 20 → add_refusal s name xs ≡ name_refusal (store_value s) name

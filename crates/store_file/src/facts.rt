@@ -19,7 +19,7 @@ impl Store {
     /// Name, length and greatest absolute reading of each series, in order.
     pub fn facts(&self) -> Result<Vec<Fact>, Memory>
         ensures facts { IfOk result (λ facts. facts_of facts.items ≡ facts_in (store_value self.now)) }
-        ensures small { IfOk result (λ facts. AreFacts (facts_of facts.items)) }
+        ensures limits { IfOk result (λ facts. AreFacts (facts_of facts.items)) }
     {
         let mut facts = Vec::new(*self.series.allocator());
         for i in 0..self.series.len() {

@@ -1,4 +1,4 @@
-ghost use Rattle.store_file.specs.Added.{AddingKeepsStores};
+ghost use Rattle.store_file.specs.Added.{AddingKeepsStores, RoomIsEnough};
 ghost use Rattle.store_file.specs.Facts.{StoresHaveFacts};
 ghost use Rattle.store_file.specs.Header.{FixedReadsBack, EntryReadsBack};
 ghost use Rattle.store_file.specs.StoreValue.{ImagesDiffer};
@@ -24,6 +24,11 @@ pub fn small_stores_have_bytes()
 /// A store with one more series, where it may have one, is a store again.
 pub fn adding_keeps_stores()
     ensures { AddingKeepsStores }
+{}
+
+/// With room for the nodes of the longest series the arena refuses no series.
+pub fn room_is_enough()
+    ensures { RoomIsEnough }
 {}
 
 /// The facts of a store are few, small, and of names that differ.

@@ -19,7 +19,8 @@ pub use adding::SeriesErr;
 pub use decoding::{StoreErr, bytes_decode, decode};
 pub use header::{Entry, Fixed};
 pub use laws::{
-    adding_keeps_stores, headers_keep, images_differ, small_stores_have_bytes, stores_have_facts,
+    adding_keeps_stores, headers_keep, images_differ, room_is_enough, small_stores_have_bytes,
+    stores_have_facts,
 };
 pub use reading::{entry_len, read_entry, read_fixed};
 pub use store::{Store, Stored};

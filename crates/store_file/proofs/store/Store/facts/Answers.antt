@@ -24,6 +24,6 @@ pub returns-clause-facts : goal.returns-clause-facts
 returns-clause-facts c =
     view-facts _ c.args.self.now c.loop-i.facts.items c.self.view_is (facts-end c.self.inside.arena.nodes c.loop-i.i c.self.inside.series.entries c.loop-i.facts.items _ (omega (arith, c.len-i-end.ensures.len, c.loop-i-test.false)) c.loop-i.invariant)
 
-pub returns-clause-small : goal.returns-clause-small
-returns-clause-small c =
+pub returns-clause-limits : goal.returns-clause-limits
+returns-clause-limits c =
     view-small _ c.args.self.now c.loop-i.facts.items c.self.view_is c.self.invariant (facts-end c.self.inside.arena.nodes c.loop-i.i c.self.inside.series.entries c.loop-i.facts.items _ (omega (arith, c.len-i-end.ensures.len, c.loop-i-test.false)) c.loop-i.invariant)

@@ -1,4 +1,5 @@
 use super::*;
+use expr::Name;
 use std::test::Fail;
 
 #[test]

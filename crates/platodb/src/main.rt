@@ -9,6 +9,8 @@ use std::io::{self, ErrorKind};
 use std::process::ExitCode;
 
 #[cfg(test)]
+mod store_tests;
+#[cfg(test)]
 mod tests;
 
 const NO_MEMORY: u8 = 1;

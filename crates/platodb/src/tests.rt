@@ -6,7 +6,7 @@ use std::alloc::Global;
 use std::collections::BTreeMap;
 use std::test::Fail;
 
-const ALTERNATING: &[u8] =
+pub(crate) const ALTERNATING: &[u8] =
     b"v\n0\n10\n0\n10\n0\n10\n0\n10\n0\n10\n0\n10\n0\n10\n0\n10\n0\n10\n0\n10\n0\n10\n0\n10\n0\n10\n0\n10\n0\n10\n0\n10\n";
 
 const MOST_CSV: usize = 1 << 26;
@@ -18,7 +18,7 @@ fn shelf_with(alloc: Global, text: Vec<u8>, failing_reads: &[u64]) -> Result<Mem
     Ok(MemShelf::new(alloc, files, failing_reads.to_vec(alloc)?, Vec::new(alloc)))
 }
 
-fn words_of(alloc: Global, line: &str) -> Result<Vec<String>, Fail> {
+pub(crate) fn words_of(alloc: Global, line: &str) -> Result<Vec<String>, Fail> {
     let mut words = Vec::new(alloc);
     for word in line.split(' ') {
         words.push(String::from_str(alloc, word)?)?;

@@ -1,9 +1,15 @@
+pub mod CheckLaws
 pub mod Containment
+pub mod CountLaws
+pub mod NameTexts
 pub mod NodeLaws
 pub mod DescentLaws
 pub mod PlaceLaws
 pub mod RowLaws
 pub mod ExpandLaws
 pub mod WorkedCuts
+pub mod ReplayLaws
 pub mod ReplyTexts
+pub mod RoomLaws
+pub mod StepLaws
 pub mod SumLines

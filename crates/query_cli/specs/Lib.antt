@@ -1,10 +1,16 @@
 pub mod Answers
 pub mod Causes
+pub mod Checks
 pub mod Commands
+pub mod Counts
 pub mod Cuts
 pub mod Descents
 pub mod Lines
+pub mod Loads
 pub mod Refusals
+pub mod Replay
 pub mod Statuses
+pub mod Steps
+pub mod Stops
 pub mod Views
 pub mod Rows

@@ -3,12 +3,27 @@ use Rattle.std.specs.Prelude.{ℕ, List, [], ◌++◌, codes, ℤ}
 use Rattle.std.specs.Fmt.{decimal, signed_decimal}
 use Rattle.series_csv.specs.declared.fault.CsvErr.{CsvErr}
 use Rattle.series_csv.specs.declared.fault.CsvErr.TheVariants as csv
-use Rattle.query_cli.specs.Refusals.{Refusal, usage, read_fault, absent, too_big, bad_csv, domain}
+use Rattle.store_file.specs.declared.decoding.StoreErr.{StoreErr}
+use Rattle.store_file.specs.declared.decoding.StoreErr.TheVariants as stored
+use Rattle.store_file.specs.declared.adding.SeriesErr.{SeriesErr}
+use Rattle.store_file.specs.declared.adding.SeriesErr.TheVariants as series
+use Rattle.query_cli.specs.Refusals.{Refusal, usage, read_fault, replace_fault, absent, too_big, bad_csv, bad_store, series_fault, domain}
 
 -- `LO HI WIDTH NODES OPENED`
 abbrev pub answer_line : ℤ → ℤ → ℕ → ℕ → ℕ → List ℕ
 answer_line lo hi width nodes opened =
     signed_decimal lo ++ codes " " ++ signed_decimal hi ++ codes " " ++ decimal width ++ codes " " ++ decimal nodes ++ codes " " ++ decimal opened ++ codes "\n"
+
+abbrev pub new_line : List ℕ
+new_line = codes "new\n"
+
+-- `loaded NAME TOTAL`
+abbrev pub loaded_line : List ℕ → ℕ → List ℕ
+loaded_line name total = codes "loaded " ++ name ++ codes " " ++ decimal total ++ codes "\n"
+
+-- `ok SERIES READINGS`
+abbrev pub ok_line : ℕ → ℕ → List ℕ
+ok_line series readings = codes "ok " ++ decimal series ++ codes " " ++ decimal readings ++ codes "\n"
 
 -- the first refusal of a column; want of memory has no line
 abbrev pub csv_line : CsvErr → List ℕ
@@ -21,11 +36,29 @@ csv_line (csv.MissingFirst k) = codes "csv missing first " ++ decimal k ++ codes
 csv_line (csv.TooLong k) = codes "csv too long " ++ decimal k ++ codes "\n"
 csv_line csv.Memory = []
 
+-- the first refusal of a store's bytes; want of memory has no line
+abbrev pub store_line : StoreErr → List ℕ
+store_line (stored.NotAStore place) = codes "store bad header " ++ decimal place ++ codes "\n"
+store_line (stored.BadNode name start len) = codes "store bad node " ++ name ++ codes " " ++ decimal start ++ codes " " ++ decimal len ++ codes "\n"
+store_line stored.Memory = []
+
+-- why a series of a name is refused; a full arena and want of memory have no line here
+abbrev pub series_line : List ℕ → SeriesErr → List ℕ
+series_line name series.Exists = codes "series exists " ++ name ++ codes "\n"
+series_line name series.TooMany = codes "series too many\n"
+series_line name series.Unknown = codes "series unknown " ++ name ++ codes "\n"
+series_line name series.TooLong = codes "series too long " ++ name ++ codes "\n"
+series_line name series.ArenaFull = []
+series_line name series.Memory = []
+
 -- the line of a refusal
 abbrev pub line_of : Refusal → List ℕ
 line_of usage = codes "usage fault\n"
 line_of read_fault = codes "read fault\n"
+line_of replace_fault = codes "replace fault\n"
 line_of (absent name) = codes "absent " ++ name ++ codes "\n"
 line_of (too_big name) = codes "too big " ++ name ++ codes "\n"
 line_of (bad_csv e) = csv_line e
+line_of (bad_store e) = store_line e
+line_of (series_fault name e) = series_line name e
 line_of (domain sum lo hi) = codes "domain " ++ decimal sum ++ codes " " ++ signed_decimal lo ++ codes " " ++ signed_decimal hi ++ codes "\n"

@@ -1,22 +1,40 @@
 -- Commands and refusals without where their words lie.
-use Rattle.query_cli.specs.Commands.{Command, OnceCommand, once}
-use Rattle.query_cli.specs.Refusals.{Refusal, usage, read_fault, absent, too_big, bad_csv, domain}
+use Rattle.query_cli.specs.Commands.{Command, OnceCommand, NewCommand, LoadCommand, CheckCommand, once, new_store, load, check}
+use Rattle.query_cli.specs.Refusals.{Refusal, usage, read_fault, replace_fault, absent, too_big, bad_csv, bad_store, series_fault, domain}
 use Rattle.query_cli.specs.declared.command.Command.{Command as CommandCode}
 use Rattle.query_cli.specs.declared.command.Command.TheVariants as command
 use Rattle.query_cli.specs.declared.command.Once.{Once}
+use Rattle.query_cli.specs.declared.command.New.{New}
+use Rattle.query_cli.specs.declared.command.Load.{Load}
+use Rattle.query_cli.specs.declared.command.Check.{Check}
 use Rattle.query_cli.specs.declared.refusal.Refusal.{Refusal as RefusalCode}
 use Rattle.query_cli.specs.declared.refusal.Refusal.TheVariants as refusal
 
 abbrev pub once_view : Once → OnceCommand
 once_view o = record { csv = o.csv.now; column = o.column.now; scale = o.scale; budget = o.budget; from = o.from; until = o.until }
 
+abbrev pub new_view : New → NewCommand
+new_view n = record { store = n.store.now; scale = n.scale; degree = n.degree }
+
+abbrev pub load_view : Load → LoadCommand
+load_view l = record { store = l.store.now; name = l.name; csv = l.csv.now; column = l.column.now }
+
+abbrev pub check_view : Check → CheckCommand
+check_view c = record { store = c.store.now }
+
 abbrev pub command_view : CommandCode → Command
 command_view (command.Once o) = once (once_view o)
+command_view (command.New n) = new_store (new_view n)
+command_view (command.Load l) = load (load_view l)
+command_view (command.Check c) = check (check_view c)
 
 abbrev pub refusal_view : RefusalCode → Refusal
 refusal_view refusal.Usage = usage
 refusal_view refusal.ReadFault = read_fault
+refusal_view refusal.ReplaceFault = replace_fault
 refusal_view (refusal.Absent name) = absent name.now
 refusal_view (refusal.TooBig name) = too_big name.now
 refusal_view (refusal.BadCsv e) = bad_csv e
+refusal_view (refusal.BadStore e) = bad_store e
+refusal_view (refusal.SeriesFault name e) = series_fault name e
 refusal_view (refusal.Domain sum lo hi) = domain sum lo hi

@@ -1,43 +1,31 @@
 // The answer of `once`.
 
-ghost use Rattle.std.specs.Prelude.{◌≡◌, ◌≤◌, ◌^◌, ◌≤ℤ◌, ◌-ℤ◌, pos, [], length, string_bytes, true, Some, None, Ok, Err, IfOk, IfErr, List, ℤ};
+ghost use Rattle.std.specs.Prelude.{◌≡◌, ◌⊎◌, ◌≤◌, ◌^◌, ◌≤ℤ◌, ◌-ℤ◌, pos, [], length, string_bytes, true, Some, None, Ok, Err, IfOk, IfErr, List, ℤ};
+ghost use Rattle.semantics.specs.Faults.{Rose};
 ghost use Rattle.semantics.specs.Readings.{plain_sum};
 ghost use Rattle.seg_tree.specs.Trees.{IsTreeOf, value_of};
 ghost use Rattle.segment.specs.Measure.{AreReadings};
 ghost use Rattle.segment.specs.Tree.{fitted_series};
-ghost use Rattle.series_csv.specs.Column.{column_of, most_readings};
-ghost use Rattle.query_cli.specs.Answers.{IsOnceAnswer, IsSumLine, end_of, first_of, in_file, is_range_of, most_csv};
-ghost use Rattle.query_cli.specs.Causes.{IfRefused, IsCause};
+ghost use Rattle.series_csv.specs.Column.{most_readings};
+ghost use Rattle.query_cli.specs.Answers.{IsSumLine, end_of, first_of, is_range_of, summed_in};
+ghost use Rattle.query_cli.specs.Causes.{IsCause, IsDone};
 ghost use Rattle.query_cli.specs.Commands.{once};
 ghost use Rattle.query_cli.specs.Lines.{answer_line};
-ghost use Rattle.query_cli.specs.Refusals.{MayRefuseOnce};
+ghost use Rattle.query_cli.specs.Refusals.{IsOfSummed};
+ghost use Rattle.query_cli.specs.Steps.{most_csv};
+ghost use Rattle.query_cli.specs.Stops.{IfRefused, IsStepRefusal, stop_status};
 ghost use Rattle.query_cli.specs.Descents.{Tells};
 ghost use Rattle.query_cli.specs.Views.{once_view};
 
+use crate::column::readings_of;
 use crate::command::Once;
 use crate::descent::{Answer, DescentErr, descend};
-use crate::files::read_csv;
-use crate::refusal::{Refusal, Stop};
+use crate::files::{MOST_CSV, read_file};
+use crate::refusal::{Refusal, Stop, refuse};
+use crate::status::Status;
 use outside::Shelf;
 use seg_tree::{Arena, ArenaNodes, Tree, TreeErr};
-use series_csv::{CsvErr, read_column};
 use std::alloc::{AllocError, Global};
-
-// The readings of the column.
-fn readings_of<'a>(alloc: Global, command: &Once<'a>, bytes: &[u8]) -> Result<Vec<i32>, Stop<'a>>
-    requires { length bytes.now ≤ most_csv }
-    ensures few { IfOk result (λ v. length v.items ≤ most_readings) }
-    ensures small { IfOk result (λ v. AreReadings v.items) }
-    ensures ok { IfOk result (λ v. column_of bytes.now command.now.column.now command.now.scale None ≡ Ok v.items) }
-    ensures refused { IfErr result (λ s. IfRefused s (λ r. in_file (once_view command.now) (Some bytes.now) ≡ Err r)) }
-    ensures possible { IfErr result (λ s. IfRefused s (MayRefuseOnce (once_view command.now))) }
-{
-    match read_column(alloc, bytes, command.column.as_bytes(), command.scale, None) {
-        Ok(xs) => Ok(xs),
-        Err(CsvErr::Memory) => Err(Stop::Memory),
-        Err(e) => Err(Stop::Refused(Refusal::BadCsv(e))),
-    }
-}
 
 // Whether a range has no position, or positions of `n` readings alone.
 fn is_range(n: u32, from: i64, until: i64) -> bool
@@ -138,20 +126,22 @@ fn sum_line(alloc: Global, command: &Once<'_>, xs: &[i32]) -> Result<String, All
 }
 
 // The answer over the bytes of the file.
-fn answer_in_file<'a>(alloc: Global, command: &Once<'a>, bytes: &[u8]) -> Result<String, Stop<'a>>
+fn answer_in_file(alloc: Global, command: &Once<'_>, bytes: &[u8]) -> Result<String, Stop>
     requires { length bytes.now ≤ most_csv }
-    ensures ok { IfOk result (λ t. (xs : List ℤ) × (in_file (once_view command.now) (Some bytes.now) ≡ Ok xs) × IsSumLine (once_view command.now) xs (string_bytes t)) }
-    ensures refused { IfErr result (λ s. IfRefused s (λ r. in_file (once_view command.now) (Some bytes.now) ≡ Err r)) }
-    ensures possible { IfErr result (λ s. IfRefused s (MayRefuseOnce (once_view command.now))) }
+    ensures ok { IfOk result (λ t. (xs : List ℤ) × (summed_in (once_view command.now) bytes.now ≡ Ok xs) × IsSumLine (once_view command.now) xs (string_bytes t)) }
+    ensures refused { IfErr result (λ s. IfRefused s (IsStepRefusal IsOfSummed (summed_in (once_view command.now) bytes.now))) }
 {
-    let xs = readings_of(alloc, command, bytes)?;
+    let xs = readings_of(alloc, bytes, command.column, command.scale)?;
     let n = xs.len() as u32;
     if !is_range(n, command.from, command.until) {
-        return Err(Stop::Refused(Refusal::Domain {
-            sum: 1,
-            lo: 0,
-            hi: i64::from(n),
-        }));
+        return Err(refuse(
+            alloc,
+            &Refusal::Domain {
+                sum: 1,
+                lo: 0,
+                hi: i64::from(n),
+            },
+        ));
     }
     match sum_line(alloc, command, &xs) {
         Ok(text) => Ok(text),
@@ -160,18 +150,19 @@ fn answer_in_file<'a>(alloc: Global, command: &Once<'a>, bytes: &[u8]) -> Result
 }
 
 /// The line of the sum over the column of the file, or why there is none.
-pub(crate) fn answer_once<'a, S: Shelf>(
+pub(crate) fn answer_once<S: Shelf>(
     alloc: Global,
-    command: &Once<'a>,
+    command: &Once<'_>,
     shelf: &mut S,
-) -> Result<String, Stop<'a>>
-    ensures ok { IfOk result (λ t. IsOnceAnswer (S.files shelf.old) (once_view command.now) (string_bytes t)) }
-    ensures cause { IfErr result (λ s. IfRefused s (IsCause (S.files shelf.old) (S.read_faults shelf.old) (S.read_faults shelf.new) (Some (once (once_view command.now))))) }
+) -> Result<String, Stop>
+    ensures done { IfOk result (λ t. IsDone (S.files shelf.old) (S.files shelf.new) (Some (once (once_view command.now))) (string_bytes t)) }
+    ensures cause { IfErr result (λ s. IfRefused s (IsCause (S.files shelf.old) (Some (once (once_view command.now))))) }
+    ensures read_fault { IfErr result (λ s. stop_status s ≡ Status.ReadFault → Rose (S.read_faults shelf.old) (S.read_faults shelf.new)) }
     ensures read_faults_stay { S.read_faults shelf.old ≤ S.read_faults shelf.new }
     ensures replace_faults_stay { S.replace_faults shelf.new ≡ S.replace_faults shelf.old }
     ensures files_stay { S.files shelf.new ≡ S.files shelf.old }
 {
-    let bytes = read_csv(alloc, shelf, command.csv)?;
+    let bytes = read_file(alloc, shelf, MOST_CSV, command.csv)?;
     let text = answer_in_file(alloc, command, &bytes)?;
     Ok(text)
 }

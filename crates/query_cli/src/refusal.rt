@@ -1,21 +1,149 @@
-// Why a command is refused.
+// Why a command is refused, and what is replied then.
 
+ghost use Rattle.std.specs.Prelude.{◌≡◌, IfOk, string_bytes};
+ghost use Rattle.query_cli.specs.Lines.{csv_line, line_of, series_line, store_line};
+ghost use Rattle.query_cli.specs.Refusals.{domain, status_of};
+ghost use Rattle.query_cli.specs.Stops.{IfRefused, IsReplyOf};
+ghost use Rattle.query_cli.specs.Views.{refusal_view};
+
+use crate::names::name_text;
+use crate::status::Status;
+use expr::Name;
 use series_csv::CsvErr;
+use std::alloc::{AllocError, Global};
+use store_file::{SeriesErr, StoreErr};
 
 /// The first refusal of a command, with what its line names.
 #[derive(Drop)]
 pub(crate) enum Refusal<'a> {
     Usage,
     ReadFault,
+    ReplaceFault,
     Absent(&'a str),
     TooBig(&'a str),
     BadCsv(CsvErr),
+    BadStore(StoreErr),
+    SeriesFault(Name, SeriesErr),
     Domain { sum: u32, lo: i64, hi: i64 },
+}
+
+/// A status, and the text that is written with it.
+#[derive(Drop)]
+pub(crate) struct Reply {
+    pub(crate) status: Status,
+    pub(crate) text: String,
 }
 
 /// Why a command stops before its answer.
 #[derive(Drop)]
-pub(crate) enum Stop<'a> {
+pub(crate) enum Stop {
     Memory,
-    Refused(Refusal<'a>),
+    /// It is refused, with this reply.
+    Refused(Reply),
+}
+
+fn status_of_refusal(refusal: &Refusal<'_>) -> Status
+    ensures { result ≡ status_of (refusal_view refusal.now) }
+{
+    match refusal {
+        Refusal::Usage => Status::Usage,
+        Refusal::ReadFault => Status::ReadFault,
+        Refusal::ReplaceFault => Status::ReplaceFault,
+        Refusal::Absent(_) => Status::Absent,
+        Refusal::TooBig(_) => Status::TooBig,
+        Refusal::BadCsv(_) => Status::BadCsv,
+        Refusal::BadStore(_) => Status::BadStore,
+        Refusal::SeriesFault(..) => Status::SeriesFault,
+        Refusal::Domain { .. } => Status::Domain,
+    }
+}
+
+fn line_of_csv(alloc: Global, e: CsvErr) -> Result<String, AllocError>
+    ensures { IfOk result (λ t. string_bytes t ≡ csv_line e) }
+{
+    match e {
+        CsvErr::NoHeader => String::from_str(alloc, "csv no header\n"),
+        CsvErr::NoColumn => String::from_str(alloc, "csv no column\n"),
+        CsvErr::Short(k) => format!(in alloc; "csv short {k}\n"),
+        CsvErr::Bad(k) => format!(in alloc; "csv bad {k}\n"),
+        CsvErr::TooLarge(k) => format!(in alloc; "csv too large {k}\n"),
+        CsvErr::MissingFirst(k) => format!(in alloc; "csv missing first {k}\n"),
+        CsvErr::TooLong(k) => format!(in alloc; "csv too long {k}\n"),
+        CsvErr::Memory => Err(AllocError),
+    }
+}
+
+fn line_of_node(alloc: Global, name: &Name, start: u32, len: u32) -> Result<String, AllocError>
+    ensures { IfOk result (λ t. string_bytes t ≡ store_line (StoreErr.BadNode name.now start len)) }
+{
+    let name = name_text(name);
+    let text = format!(in alloc; "store bad node {name} {start} {len}\n")?;
+    Ok(text)
+}
+
+fn line_of_store(alloc: Global, e: &StoreErr) -> Result<String, AllocError>
+    ensures { IfOk result (λ t. string_bytes t ≡ store_line e.now) }
+{
+    match e {
+        StoreErr::NotAStore(place) => format!(in alloc; "store bad header {place}\n"),
+        StoreErr::BadNode(name, start, len) => line_of_node(alloc, name, *start, *len),
+        StoreErr::Memory => Err(AllocError),
+    }
+}
+
+fn line_of_series(alloc: Global, name: &Name, e: SeriesErr) -> Result<String, AllocError>
+    ensures { IfOk result (λ t. string_bytes t ≡ series_line name.now e) }
+{
+    let name = name_text(name);
+    match e {
+        SeriesErr::Exists => format!(in alloc; "series exists {name}\n"),
+        SeriesErr::TooMany => String::from_str(alloc, "series too many\n"),
+        SeriesErr::Unknown => format!(in alloc; "series unknown {name}\n"),
+        SeriesErr::TooLong => format!(in alloc; "series too long {name}\n"),
+        SeriesErr::ArenaFull | SeriesErr::Memory => Err(AllocError),
+    }
+}
+
+fn line_of_domain(alloc: Global, sum: u32, lo: i64, hi: i64) -> Result<String, AllocError>
+    ensures { IfOk result (λ t. string_bytes t ≡ line_of (domain sum lo hi)) }
+{
+    let text = format!(in alloc; "domain {sum} {lo} {hi}\n")?;
+    Ok(text)
+}
+
+fn line_of_refusal(alloc: Global, refusal: &Refusal<'_>) -> Result<String, AllocError>
+    ensures { IfOk result (λ t. string_bytes t ≡ line_of (refusal_view refusal.now)) }
+{
+    match refusal {
+        Refusal::Usage => String::from_str(alloc, "usage fault\n"),
+        Refusal::ReadFault => String::from_str(alloc, "read fault\n"),
+        Refusal::ReplaceFault => String::from_str(alloc, "replace fault\n"),
+        Refusal::Absent(name) => format!(in alloc; "absent {name}\n"),
+        Refusal::TooBig(name) => format!(in alloc; "too big {name}\n"),
+        Refusal::BadCsv(e) => line_of_csv(alloc, *e),
+        Refusal::BadStore(e) => line_of_store(alloc, e),
+        Refusal::SeriesFault(name, e) => line_of_series(alloc, name, *e),
+        Refusal::Domain { sum, lo, hi } => line_of_domain(alloc, *sum, *lo, *hi),
+    }
+}
+
+// The reply of a refusal.
+fn reply_of(alloc: Global, refusal: &Refusal<'_>) -> Result<Reply, AllocError>
+    ensures { IfOk result (IsReplyOf (refusal_view refusal.now)) }
+{
+    let text = line_of_refusal(alloc, refusal)?;
+    Ok(Reply {
+        status: status_of_refusal(refusal),
+        text,
+    })
+}
+
+/// Stops a command by a refusal, or for want of memory.
+pub(crate) fn refuse(alloc: Global, refusal: &Refusal<'_>) -> Stop
+    ensures { IfRefused result (λ r. r ≡ refusal_view refusal.now) }
+{
+    match reply_of(alloc, refusal) {
+        Ok(reply) => Stop::Refused(reply),
+        Err(AllocError) => Stop::Memory,
+    }
 }

@@ -1,12 +1,12 @@
 // The top call.
 
-ghost use Rattle.std.specs.Prelude.{◌≡◌, ◌≢◌, ◌⊎◌, ◌≤◌, [], None};
+ghost use Rattle.std.specs.Prelude.{◌≡◌, ◌≢◌, ◌⊎◌, ◌≤◌, [], false, None, Some};
 ghost use Rattle.std.specs.Io.KnownBytes.{Appends};
 ghost use Rattle.semantics.specs.Faults.{Rose};
 ghost use Rattle.semantics.specs.Files.{IfTold};
-ghost use Rattle.query_cli.specs.Answers.{Grew, IsAnswer, IsFront, IsRefusal, IsStatus, refusal_of};
-ghost use Rattle.query_cli.specs.Commands.{command_in};
-ghost use Rattle.query_cli.specs.Refusals.{called_for};
+ghost use Rattle.query_cli.specs.Answers.{Grew, Hides, IsAnswer, IsRefusal, IsStatus, files_after, refusal_of};
+ghost use Rattle.query_cli.specs.Commands.{command_in, is_reader, is_writer};
+ghost use Rattle.query_cli.specs.Replay.{IsReplayed};
 
 use crate::reply::reply_to;
 use crate::status::Status;
@@ -16,34 +16,52 @@ use std::alloc::Global;
 /// Does what the words say, over these files, and writes the answer or the line of the refusal.
 /// Only want of memory is free: it may come in place of any other answer.
 pub fn run<S: Shelf, O: Out>(alloc: Global, words: &[String], shelf: &mut S, out: &mut O) -> Status
-    // With status 0 the output grew by the line of an interval that holds the plain sum of the readings and is no wider
-    // than the budget.
+    // With status 0 the output grew by the command's line; that of `once` has an interval that holds the plain sum of the
+    // readings and is no wider than the budget.
     ensures answer { result ≡ Status.Ok → Grew (O.written out.old) (O.written out.new) (IsAnswer (S.files shelf.old) (command_in words.now)) }
 
     // The status is the one that words and files call for; it yields to want of memory and to faults.
-    ensures exact { IfTold (S.files shelf.old) (λ m. IsStatus (called_for (refusal_of m (command_in words.now))) result) }
+    ensures exact { IfTold (S.files shelf.old) (λ m. IsStatus (command_in words.now) (refusal_of m (command_in words.now)) result) }
     ensures usage_only { result ≡ Status.Usage → command_in words.now ≡ None }
     ensures no_command { command_in words.now ≡ None → (result ≡ Status.Usage) ⊎ (result ≡ Status.Memory) ⊎ (result ≡ Status.OutFault) }
     // Where no count of faults rose and nothing is refused, it is Ok or want of memory.
-    ensures complete { ¬ Rose (S.read_faults shelf.old) (S.read_faults shelf.new) → ¬ Rose (O.write_faults out.old) (O.write_faults out.new)
+    ensures complete { ¬ Rose (S.read_faults shelf.old) (S.read_faults shelf.new) → ¬ Rose (S.replace_faults shelf.old) (S.replace_faults shelf.new)
+        → ¬ Rose (O.write_faults out.old) (O.write_faults out.new)
         → IfTold (S.files shelf.old) (λ m. refusal_of m (command_in words.now) ≡ None → (result ≡ Status.Ok) ⊎ (result ≡ Status.Memory)) }
 
     // With a refusal the output grew by exactly its line.
     ensures refusal { result ≢ Status.Ok → result ≢ Status.Memory → result ≢ Status.OutFault
         → Grew (O.written out.old) (O.written out.new) (IsRefusal (S.files shelf.old) (command_in words.now) result) }
-    // After a fault of the output it grew by a front of the command's text, and after want of memory by nothing.
-    ensures cut { result ≡ Status.OutFault → Grew (O.written out.old) (O.written out.new) (IsFront (S.files shelf.old) (command_in words.now)) }
+    // After a fault of the output it grew by a front of the text of the status that the fault hides, and after want of
+    // memory by nothing.
+    ensures cut { result ≡ Status.OutFault → Grew (O.written out.old) (O.written out.new)
+        (Hides (S.files shelf.old) (S.files shelf.new) (Rose (S.read_faults shelf.old) (S.read_faults shelf.new)) (Rose (S.replace_faults shelf.old) (S.replace_faults shelf.new)) (command_in words.now)) }
     ensures memory { result ≡ Status.Memory → Appends (O.written out.old) (O.written out.new) [] }
 
-    // A fault is answered only where its count rose in this run, and no count falls.
+    // A fault is answered only where its count rose in this run, or stood at its last value; no count falls, and only a
+    // call can raise it.
     ensures read_fault { result ≡ Status.ReadFault → Rose (S.read_faults shelf.old) (S.read_faults shelf.new) }
+    ensures replace_fault { result ≡ Status.ReplaceFault → Rose (S.replace_faults shelf.old) (S.replace_faults shelf.new) }
     ensures out_fault { result ≡ Status.OutFault → Rose (O.write_faults out.old) (O.write_faults out.new) }
     ensures read_faults_stay { S.read_faults shelf.old ≤ S.read_faults shelf.new }
+    ensures replace_faults_stay { S.replace_faults shelf.old ≤ S.replace_faults shelf.new }
     ensures write_faults_stay { O.write_faults out.old ≤ O.write_faults out.new }
+    ensures reads_nothing { is_reader (command_in words.now) ≡ false → S.read_faults shelf.new ≡ S.read_faults shelf.old }
+    ensures writes_nothing { is_writer (command_in words.now) ≡ false → S.replace_faults shelf.new ≡ S.replace_faults shelf.old }
 
-    // The files stay, and no replacing failed.
-    ensures replace_faults_stay { S.replace_faults shelf.new ≡ S.replace_faults shelf.old }
-    ensures files_stay { S.files shelf.new ≡ S.files shelf.old }
+    // With status 0 the files are as after the command, and after a refusal as before. Whatever the status, they are one
+    // of the two, so after want of memory or a fault of the output all was done or nothing.
+    ensures left { result ≡ Status.Ok → IfTold (S.files shelf.old) (λ m. S.files shelf.new ≡ Some (files_after m (command_in words.now))) }
+    ensures kept { result ≢ Status.Ok → result ≢ Status.Memory → result ≢ Status.OutFault → S.files shelf.new ≡ S.files shelf.old }
+    ensures all_or_nothing { IfTold (S.files shelf.old) (λ m. (S.files shelf.new ≡ Some m) ⊎ (S.files shelf.new ≡ Some (files_after m (command_in words.now)))) }
+    // After a fault of the output all was done where nothing is refused and no other fault rose.
+    ensures cut_done { result ≡ Status.OutFault → ¬ Rose (S.read_faults shelf.old) (S.read_faults shelf.new) → ¬ Rose (S.replace_faults shelf.old) (S.replace_faults shelf.new)
+        → IfTold (S.files shelf.old) (λ m. refusal_of m (command_in words.now) ≡ None → S.files shelf.new ≡ Some (files_after m (command_in words.now))) }
+    ensures untold { S.files shelf.old ≡ None → S.files shelf.new ≡ None }
+
+    // With status 0 a store that stood for a history stands for that history and this command, and every other file is as
+    // it was.
+    ensures replay { result ≡ Status.Ok → IfTold (S.files shelf.old) (λ m. IsReplayed m (command_in words.now) (S.files shelf.new)) }
 {
     let Ok(reply) = reply_to(alloc, words, shelf) else {
         return Status::Memory;

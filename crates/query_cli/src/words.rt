@@ -1,13 +1,16 @@
 // The words of a command line.
 
 ghost use Rattle.std.specs.Prelude.{◌≡◌, ◌<◌, length, map, option_map, string_bytes};
-ghost use Rattle.query_cli.specs.Commands.{command_in, is_once, word};
+ghost use Rattle.query_cli.specs.Commands.{check_of, command_in, has_form, is_file, load_of, new_of, once_of, word};
 ghost use Rattle.query_cli.specs.Views.{command_view};
 
-use crate::command::{Command, Once};
+use crate::command::{Check, Command, Load, New, Once};
 use crate::number::{read_digit, read_digits, read_whole};
+use expr::Name;
 
 const MOST_SCALE: u8 = 6;
+
+const MOST_DEGREE: u8 = 2;
 
 const MOST_BUDGET: u128 = (1 << 127) - 1;
 
@@ -20,19 +23,26 @@ fn word_at(words: &[String], i: usize) -> &str
     words[i].as_str()
 }
 
-// Whether the words are those of `once`, but for its numbers.
-fn has_once_form(words: &[String]) -> bool
-    ensures { result ≡ is_once (map string_bytes words.now) }
+// Whether there are so many words, of which the first is the command's name.
+fn is_form(words: &[String], name: &str, count: usize) -> bool
+    requires { 0 < count }
+    ensures { result ≡ has_form (map string_bytes words.now) name.now count }
 {
-    words.len() == 7 && word_at(words, 0) == "once" && !word_at(words, 1).is_empty()
+    words.len() == count && word_at(words, 0) == name
 }
 
-/// The command that the words spell.
-#[tactic(auto, unfolding(crate::specs::Commands::command_of))]
-pub(crate) fn read_command(words: &[String]) -> Option<Command<'_>>
-    ensures { option_map command_view result ≡ command_in words.now }
+// A file word isn't empty.
+fn is_file_word(word: &str) -> bool
+    ensures { result ≡ is_file word.now }
 {
-    if !has_once_form(words) {
+    !word.is_empty()
+}
+
+fn read_once(words: &[String]) -> Option<Command<'_>>
+    requires { length words.now ≡ 7 }
+    ensures { option_map command_view result ≡ once_of (map string_bytes words.now) }
+{
+    if !is_file_word(word_at(words, 1)) {
         return None;
     }
     let Some(scale) = read_digit(word_at(words, 3).as_bytes(), MOST_SCALE) else {
@@ -55,4 +65,77 @@ pub(crate) fn read_command(words: &[String]) -> Option<Command<'_>>
         from,
         until,
     }))
+}
+
+fn read_new(words: &[String]) -> Option<Command<'_>>
+    requires { length words.now ≡ 4 }
+    ensures { option_map command_view result ≡ new_of (map string_bytes words.now) }
+{
+    if !is_file_word(word_at(words, 1)) {
+        return None;
+    }
+    let Some(scale) = read_digit(word_at(words, 2).as_bytes(), MOST_SCALE) else {
+        return None;
+    };
+    let Some(degree) = read_digit(word_at(words, 3).as_bytes(), MOST_DEGREE) else {
+        return None;
+    };
+    Some(Command::New(New {
+        store: word_at(words, 1),
+        scale,
+        degree,
+    }))
+}
+
+fn read_load(words: &[String]) -> Option<Command<'_>>
+    requires { length words.now ≡ 5 }
+    ensures { option_map command_view result ≡ load_of (map string_bytes words.now) }
+{
+    if !is_file_word(word_at(words, 1)) {
+        return None;
+    }
+    let Some(name) = Name::of(word_at(words, 2).as_bytes()) else {
+        return None;
+    };
+    if !is_file_word(word_at(words, 3)) {
+        return None;
+    }
+    Some(Command::Load(Load {
+        store: word_at(words, 1),
+        name,
+        csv: word_at(words, 3),
+        column: word_at(words, 4),
+    }))
+}
+
+fn read_check(words: &[String]) -> Option<Command<'_>>
+    requires { length words.now ≡ 2 }
+    ensures { option_map command_view result ≡ check_of (map string_bytes words.now) }
+{
+    if !is_file_word(word_at(words, 1)) {
+        return None;
+    }
+    Some(Command::Check(Check {
+        store: word_at(words, 1),
+    }))
+}
+
+/// The command that the words spell.
+#[tactic(auto, unfolding(crate::specs::Commands::command_of))]
+pub(crate) fn read_command(words: &[String]) -> Option<Command<'_>>
+    ensures { option_map command_view result ≡ command_in words.now }
+{
+    if is_form(words, "once", 7) {
+        return read_once(words);
+    }
+    if is_form(words, "new", 4) {
+        return read_new(words);
+    }
+    if is_form(words, "load", 5) {
+        return read_load(words);
+    }
+    if is_form(words, "check", 2) {
+        return read_check(words);
+    }
+    None
 }

@@ -1,0 +1,186 @@
+// Runs of the commands on stores, over files in memory.
+
+use crate::tests::{ALTERNATING, words_of};
+use outside::{Bytes, MemOut, MemShelf};
+use query_cli::run;
+use std::alloc::Global;
+use std::collections::BTreeMap;
+use std::process::Abort;
+use std::test::Fail;
+
+const TWENTY: &[u8] = b"v\n0\n10\n0\n10\n0\n10\n0\n10\n0\n10\n0\n10\n0\n10\n0\n10\n0\n10\n0\n10\n";
+
+// A shelf with these files.
+fn shelf_with(
+    alloc: Global,
+    files: &[(&str, &[u8])],
+    failing_reads: &[u64],
+    failing_replaces: &[u64],
+) -> Result<MemShelf, Fail> {
+    let mut held = BTreeMap::new(alloc);
+    for (name, bytes) in files {
+        held.insert(
+            String::from_str(alloc, name)?,
+            Bytes::of(bytes.to_vec(alloc)?),
+        )?;
+    }
+    Ok(MemShelf::new(
+        alloc,
+        held,
+        failing_reads.to_vec(alloc)?,
+        failing_replaces.to_vec(alloc)?,
+    ))
+}
+
+// Runs each line over the shelf, and compares what it writes and the number of its status.
+fn says(
+    rt: &impl Abort,
+    alloc: Global,
+    shelf: &mut MemShelf,
+    lines: &[(&str, &str, u8)],
+) -> Result<(), Fail> {
+    for (line, written, number) in lines {
+        let mut out = MemOut::new(alloc, Vec::new(alloc));
+        let words = words_of(alloc, line)?;
+        let status = run(alloc, &words, shelf, &mut out);
+        assert!(rt; out.bytes() == written.as_bytes(), "at {line}");
+        assert!(rt; status.number() == *number, "at {line}");
+    }
+    Ok(())
+}
+
+#[test]
+fn loads_series(rt: HostRuntime) -> Result<(), Fail> {
+    let alloc = rt.alloc();
+    let files = [("a.csv", ALTERNATING), ("b.csv", TWENTY)];
+    let mut shelf = shelf_with(alloc, &files, &[], &[])?;
+    says(
+        &rt,
+        alloc,
+        &mut shelf,
+        &[("check s", "absent s\n", 6), ("new s 2 0", "new\n", 0)],
+    )?;
+    assert!(rt; shelf.file("s") == Some(b"PLAT\x01\x02\x00\x00".as_slice()));
+    says(
+        &rt,
+        alloc,
+        &mut shelf,
+        &[
+            ("check s", "ok 0 0\n", 0),
+            ("load s x b.csv v", "loaded x 20\n", 0),
+            ("load s x b.csv w", "series exists x\n", 10),
+            ("load s y a.csv w", "csv no column\n", 8),
+            ("load s y a.csv v", "loaded y 32\n", 0),
+            ("load t y c.csv v", "absent t\n", 6),
+            ("load s y c.csv v", "absent c.csv\n", 6),
+            ("check s", "ok 2 52\n", 0),
+            ("check a.csv", "store bad header 0\n", 9),
+            ("load s sum a.csv v", "usage fault\n", 2),
+            ("new s 7 0", "usage fault\n", 2),
+            ("new s 0 3", "usage fault\n", 2),
+            ("check ", "usage fault\n", 2),
+            ("query s", "usage fault\n", 2),
+            ("new s 0 2", "new\n", 0),
+            ("check s", "ok 0 0\n", 0),
+        ],
+    )
+}
+
+#[test]
+fn loads_at_most_sixteen(rt: HostRuntime) -> Result<(), Fail> {
+    let alloc = rt.alloc();
+    let mut shelf = shelf_with(alloc, &[("a.csv", b"v\n7\n")], &[], &[])?;
+    says(&rt, alloc, &mut shelf, &[("new s 0 0", "new\n", 0)])?;
+    for k in 10..26u32 {
+        let line = format!(in alloc; "load s x{k} a.csv v")?;
+        let written = format!(in alloc; "loaded x{k} 1\n")?;
+        says(
+            &rt,
+            alloc,
+            &mut shelf,
+            &[(line.as_str(), written.as_str(), 0)],
+        )?;
+    }
+    says(
+        &rt,
+        alloc,
+        &mut shelf,
+        &[
+            ("load s x26 a.csv v", "series too many\n", 10),
+            ("load s x25 a.csv v", "series exists x25\n", 10),
+            ("check s", "ok 16 16\n", 0),
+        ],
+    )
+}
+
+// The bytes of the store of scale 0 and degree 0 with the one series `x`, 0 and 10 in turn.
+fn turns(rt: &impl Abort, alloc: Global) -> Result<Vec<u8>, Fail> {
+    let mut shelf = shelf_with(alloc, &[("a.csv", ALTERNATING)], &[], &[])?;
+    says(
+        rt,
+        alloc,
+        &mut shelf,
+        &[
+            ("new s 0 0", "new\n", 0),
+            ("load s x a.csv v", "loaded x 32\n", 0),
+        ],
+    )?;
+    let bytes = shelf.file("s").ok_or("a store")?;
+    Ok(bytes.to_vec(alloc)?)
+}
+
+#[test]
+fn checks_bytes(rt: HostRuntime) -> Result<(), Fail> {
+    let alloc = rt.alloc();
+    let bytes = turns(&rt, alloc)?;
+    assert_eq!(rt; bytes.len(), 310);
+    let short = bytes.get(..309).ok_or("a part")?;
+    let mut long = bytes.as_slice().to_vec(alloc)?;
+    long.push(0)?;
+    // The last three bytes of the root's `l`, which is 160 * 2 ^ 14.
+    let l = bytes.get(51..54).ok_or("the root's l")?;
+    assert!(rt; l == [0x28, 0, 0].as_slice());
+    let mut lower = bytes.get(..51).ok_or("a part")?.to_vec(alloc)?;
+    lower.extend_from_slice(&[0x27, 0xFF, 0xFF])?;
+    lower.extend_from_slice(bytes.get(54..).ok_or("a part")?)?;
+    let files = [
+        ("whole", bytes.as_slice()),
+        ("short", short),
+        ("long", long.as_slice()),
+        ("lower", lower.as_slice()),
+    ];
+    let mut shelf = shelf_with(alloc, &files, &[], &[])?;
+    says(
+        &rt,
+        alloc,
+        &mut shelf,
+        &[
+            ("check whole", "ok 1 32\n", 0),
+            ("check short", "store bad header 14\n", 9),
+            ("check long", "store bad header 14\n", 9),
+            ("check lower", "store bad node x 0 32\n", 9),
+        ],
+    )
+}
+
+// A failing call is answered as its fault, and the files stay.
+#[test]
+fn failing_calls(rt: HostRuntime) -> Result<(), Fail> {
+    let alloc = rt.alloc();
+    let mut shelf = shelf_with(alloc, &[("a.csv", ALTERNATING)], &[1, 5], &[1, 3])?;
+    says(
+        &rt,
+        alloc,
+        &mut shelf,
+        &[
+            ("new s 0 0", "replace fault\n", 4),
+            ("check s", "read fault\n", 3),
+            ("check s", "absent s\n", 6),
+            ("new s 0 0", "new\n", 0),
+            ("load s x a.csv v", "replace fault\n", 4),
+            ("check s", "read fault\n", 3),
+            ("check s", "ok 0 0\n", 0),
+            ("load s x a.csv v", "loaded x 32\n", 0),
+        ],
+    )
+}

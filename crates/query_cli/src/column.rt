@@ -1,0 +1,33 @@
+// The column of a CSV text.
+
+ghost use Rattle.std.specs.Prelude.{◌≡◌, ◌≤◌, length, IfOk, IfErr, Ok};
+ghost use Rattle.segment.specs.Measure.{AreReadings};
+ghost use Rattle.series_csv.specs.Column.{most_readings};
+ghost use Rattle.query_cli.specs.Refusals.{IsOfColumn};
+ghost use Rattle.query_cli.specs.Steps.{column_in, most_csv};
+ghost use Rattle.query_cli.specs.Stops.{IfRefused, IsStepRefusal};
+
+use crate::refusal::{Refusal, Stop, refuse};
+use series_csv::{CsvErr, read_column};
+use std::alloc::Global;
+
+/// The readings of the column, with no reading before.
+pub(crate) fn readings_of(
+    alloc: Global,
+    bytes: &[u8],
+    column: &str,
+    scale: u8,
+) -> Result<Vec<i32>, Stop>
+    requires bytes { length bytes.now ≤ most_csv }
+    requires scale { scale ≤ 6 }
+    ensures few { IfOk result (λ v. length v.items ≤ most_readings) }
+    ensures small { IfOk result (λ v. AreReadings v.items) }
+    ensures ok { IfOk result (λ v. column_in bytes.now column.now scale ≡ Ok v.items) }
+    ensures refused { IfErr result (λ s. IfRefused s (IsStepRefusal IsOfColumn (column_in bytes.now column.now scale))) }
+{
+    match read_column(alloc, bytes, column.as_bytes(), scale, None) {
+        Ok(xs) => Ok(xs),
+        Err(CsvErr::Memory) => Err(Stop::Memory),
+        Err(e) => Err(refuse(alloc, &Refusal::BadCsv(e))),
+    }
+}

@@ -1,0 +1,16 @@
+// What holds of all stores and histories.
+
+ghost use Rattle.query_cli.specs.Checks.{OnlyStoresAreAccepted, StoresAreAccepted};
+ghost use Rattle.query_cli.specs.Replay.{HistoriesGoOn, HistoriesMakeStores};
+
+/// Every history makes a store, and goes on with each command that its store accepts.
+pub fn histories_make_stores()
+    ensures stores { HistoriesMakeStores }
+    ensures go_on { HistoriesGoOn }
+{}
+
+/// `check` accepts the files that hold the bytes of a store, and no others.
+pub fn stores_are_accepted()
+    ensures accepted { StoresAreAccepted }
+    ensures only { OnlyStoresAreAccepted }
+{}

@@ -178,3 +178,36 @@ fn failing_puts(rt: HostRuntime) -> Result<(), Fail> {
     assert_eq!(rt; met, 1);
     Ok(())
 }
+
+// A store of scale 2 without series.
+const EMPTY: &[u8] = b"PLAT\x01\x02\x00\x00";
+
+#[test]
+fn queries(rt: HostRuntime) -> Result<(), Fail> {
+    let alloc = rt.alloc();
+    for (line, status, written) in [
+        ("query a.csv 0 2*(3-5)", Status::Ok, "-4 -4 0 0 0\n"),
+        (
+            "query a.csv 0 42535295865117307932921825928971026432",
+            Status::Ok,
+            "42535295865117307932921825928971026432 42535295865117307932921825928971026432 0 0 0\n",
+        ),
+        (
+            "query a.csv 0 42535295865117307932921825928971026433",
+            Status::Range,
+            "range 1\n",
+        ),
+        ("query a.csv 0 sum(x", Status::BadQuery, "query at 5\n"),
+        ("query s 0 sum(x", Status::BadQuery, "query at 5\n"),
+        ("query s 0 1", Status::Absent, "absent s\n"),
+        ("query a.csv 0 sum(x)", Status::Usage, "usage fault\n"),
+        ("query a.csv -1 1", Status::Usage, "usage fault\n"),
+        ("query a.csv", Status::Usage, "usage fault\n"),
+    ] {
+        let (ended, out) = outcome(alloc, line, EMPTY, &[], &[])?;
+        assert!(rt; ended == status && out.bytes() == written.as_bytes(), "{line}");
+    }
+    let (ended, out) = outcome(alloc, "query a.csv 0 1", b"PLAT", &[], &[])?;
+    assert!(rt; ended == Status::BadStore && out.bytes() == b"store fault\n".as_slice());
+    Ok(())
+}

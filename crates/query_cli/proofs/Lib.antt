@@ -3,8 +3,10 @@ pub mod Containment
 pub mod CountLaws
 pub mod NameTexts
 pub mod NodeLaws
+pub mod NumberLaws
 pub mod DescentLaws
 pub mod PlaceLaws
+pub mod QueryLaws
 pub mod RowLaws
 pub mod ExpandLaws
 pub mod WorkedCuts

@@ -2,11 +2,12 @@
 use Rattle.std.proofs.Common.{◌≡◌, ℕ, List, Option, Some, None, true, refl, sym, ap, subst, ◌∙◌, string_bytes, inl, inr, String}
 use Rattle.std.specs.Prelude.{◌⊎◌, ◌++◌}
 use Rattle.std.specs.declared.alloc.Global.{Global}
+use Rattle.semantics.specs.Admission as admission
 use Rattle.semantics.specs.Files.{Files, IfTold}
 use Rattle.query_cli.specs.Answers.{Hides, IsCalled, IsCounted, IsRefusal, IsStatus, IsText, Leaves, files_after, refusal_of}
 use Rattle.query_cli.specs.Causes.{IsCause, IsDone, Replies}
-use Rattle.query_cli.specs.Commands.{Command, once, new_store, load, check, is_reader, is_writer}
-use Rattle.query_cli.specs.Refusals.{Refusal, usage, read_fault, replace_fault, absent, too_big, bad_csv, bad_store, series_fault, domain, status_of, called_for, MayRefuse, IsOfFile, IsOfSummed, IsOfStore}
+use Rattle.query_cli.specs.Commands.{Command, once, new_store, load, check, query, is_reader, is_writer}
+use Rattle.query_cli.specs.Refusals.{Refusal, usage, read_fault, replace_fault, absent, too_big, bad_csv, bad_store, series_fault, domain, bad_query, store_fault, query_unknown, query_rank, range, query_refusal, status_of, called_for, MayRefuse, IsOfAsked, IsOfFile, IsOfSummed, IsOfStore}
 use Rattle.query_cli.specs.Stops.{IfRefused}
 use Rattle.query_cli.specs.declared.refusal.Reply.{Reply}
 use Rattle.query_cli.specs.declared.refusal.Stop.TheVariants as stop
@@ -23,6 +24,11 @@ refusal_text files command (bad_csv e) text h = h
 refusal_text files command (bad_store e) text h = h
 refusal_text files command (series_fault name e) text h = h
 refusal_text files command (domain sum lo hi) text h = h
+refusal_text files command (bad_query e) text h = h
+refusal_text files command store_fault text h = h
+refusal_text files command (query_unknown name) text h = h
+refusal_text files command (query_rank sum) text h = h
+refusal_text files command (range node) text h = h
 
 isnt_ok : (r : Refusal) → status_of r ≡ status.Ok → ⊥
 isnt_ok usage e = cc
@@ -34,6 +40,11 @@ isnt_ok (bad_csv e) h = cc
 isnt_ok (bad_store e) h = cc
 isnt_ok (series_fault name e) h = cc
 isnt_ok (domain sum lo hi) e = cc
+isnt_ok (bad_query e) h = cc
+isnt_ok store_fault e = cc
+isnt_ok (query_unknown name) e = cc
+isnt_ok (query_rank sum) e = cc
+isnt_ok (range node) e = cc
 
 -- ---- the faults that a command may meet
 
@@ -49,12 +60,23 @@ isnt_summed (inr h) = let e = h.1 in cc
 isnt_store : IsOfStore replace_fault → ⊥
 isnt_store h = let e = h.2 in cc
 
+isnt_admission : (e : admission.Refusal) → replace_fault ≡ query_refusal e → ⊥
+isnt_admission (admission.unknown name) h = cc
+isnt_admission (admission.high_rank sum) h = cc
+isnt_admission (admission.outside sum lo hi) h = cc
+isnt_admission (admission.too_great node) h = cc
+
+isnt_asked : IsOfAsked replace_fault → ⊥
+isnt_asked (inl e) = cc
+isnt_asked (inr h) = isnt_admission h.0 h.1
+
 reads : (command : Option Command) → MayRefuse command read_fault → is_reader command ≡ true
 reads None e = cc
 reads (Some (once c)) h = refl
 reads (Some (new_store c)) e = cc
 reads (Some (load c)) h = refl
 reads (Some (check c)) h = refl
+reads (Some (query c)) h = refl
 
 writes : (command : Option Command) → MayRefuse command replace_fault → is_writer command ≡ true
 writes None e = cc
@@ -64,6 +86,9 @@ writes (Some (new_store c)) h = refl
 writes (Some (load c)) h = refl
 writes (Some (check c)) (inl h) = absurd (isnt_file c.store h)
 writes (Some (check c)) (inr h) = absurd (isnt_store h)
+writes (Some (query c)) (inl h) = let e = h.2 in cc
+writes (Some (query c)) (inr (inl h)) = absurd (isnt_file c.store h)
+writes (Some (query c)) (inr (inr h)) = absurd (isnt_asked h)
 
 exact_at : (m : Files) (command : Option Command) (r : Refusal) (s : Status) → s ≡ status_of r → MayRefuse command r → IsCalled (Some m) command r → IsStatus command (refusal_of m command) s
 exact_at m command r s is possible (inl e) = inr (inr (inr (inl (is ∙ ap status_of e, reads command (subst (MayRefuse command) e possible)))))

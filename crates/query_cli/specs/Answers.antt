@@ -5,10 +5,11 @@ use Rattle.std.specs.Result.{result_err}
 use Rattle.semantics.specs.Files.{Files, IfTold, file_of, with_file}
 use Rattle.semantics.specs.Readings.{from_zero, plain_sum}
 use Rattle.store_file.specs.StoreValue.{Series, StoreValue, IsStoreValue, count_of, store_image}
-use Rattle.query_cli.specs.Commands.{Command, OnceCommand, LoadCommand, CheckCommand, once, new_store, load, check, is_reader, is_writer}
+use Rattle.query_cli.specs.Commands.{Command, OnceCommand, LoadCommand, CheckCommand, once, new_store, load, check, query, is_reader, is_writer}
 use Rattle.query_cli.specs.Cuts.{Row, IsCut, low_end, high_end, width, opened_in}
 use Rattle.query_cli.specs.Descents.{IsLast}
 use Rattle.query_cli.specs.Lines.{answer_line, new_line, loaded_line, ok_line, line_of}
+use Rattle.query_cli.specs.QueryAnswers.{IsQueryAnswer, asked_by}
 use Rattle.query_cli.specs.Refusals.{Refusal, usage, read_fault, replace_fault, domain, status_of, called_for, MayRefuse}
 use Rattle.query_cli.specs.Replay.{adds, empty_store, step}
 use Rattle.query_cli.specs.Steps.{and_then, file_in, most_csv, most_store, store_in, room_in, column_in}
@@ -61,6 +62,7 @@ refusal_of files (Some (once c)) = result_err (summed_by c files)
 refusal_of files (Some (new_store c)) = None
 refusal_of files (Some (load c)) = result_err (loaded_by c files)
 refusal_of files (Some (check c)) = result_err (checked_by c files)
+refusal_of files (Some (query c)) = result_err (asked_by c files)
 
 -- the status that is called for, or one of those to which it yields: want of memory, a fault of the output, a fault of
 -- reading where files are read, and a fault of replacing where one is written and nothing else is refused
@@ -84,6 +86,7 @@ files_after files (Some (once c)) = files
 files_after files (Some (new_store c)) = with_file files c.store (store_image (empty_store c.scale c.degree))
 files_after files (Some (load c)) = files_after_load files c (loaded_by c files)
 files_after files (Some (check c)) = files
+files_after files (Some (query c)) = files
 
 -- the range of `once`; where it has no position it is taken to lie at 0
 abbrev pub first_of : OnceCommand → ℕ
@@ -140,6 +143,7 @@ IsAnswer files (Some (once c)) text = IsOnceAnswer files c text
 IsAnswer files (Some (new_store c)) text = text ≡ new_line
 IsAnswer files (Some (load c)) text = IsLoadAnswer files c text
 IsAnswer files (Some (check c)) text = IsCheckAnswer files c text
+IsAnswer files (Some (query c)) text = IsQueryAnswer files c text
 
 -- the first refusal that the files call for; a fault of reading; or one of replacing where nothing else is refused
 abbrev pub IsCalled : Option Files → Option Command → Refusal → Type 0

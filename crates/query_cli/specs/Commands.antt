@@ -1,9 +1,13 @@
 -- The words of a command line as a command.
-use Rattle.std.specs.Prelude.{ℕ, Bool, true, false, List, [], length, Option, Some, None, ◌==◌, ◌&&◌, not, nat_le, if◌then◌else◌, slice_index_or, bytes_eq, codes, map, string_bytes, ℤ, unsigned_abs}
+use Rattle.std.specs.Prelude.{ℕ, Bool, true, false, List, [], length, Option, Some, None, Result, Ok, Err, ◌==◌, ◌&&◌, not, nat_le, if◌then◌else◌, slice_index_or, bytes_eq, codes, map, string_bytes, ℤ, unsigned_abs}
 use Rattle.std.specs.declared.string.String.{String}
 use Rattle.std.specs.declared.alloc.Global.{Global}
 use Rattle.semantics.specs.Names.{is_name}
 use Rattle.semantics.specs.Numbers.{number_in, number_of, are_digits}
+use Rattle.semantics.specs.Term.{QueryTerm}
+use Rattle.expr_parse.specs.declared.error.ParseErr.{ParseErr}
+use Rattle.expr_parse.specs.Parsed.{parsed}
+use Rattle.query_cli.specs.Numbers.{is_of_numbers}
 
 -- the interval of the sum of a column over the positions from one up to another, no wider than a budget
 pub record OnceCommand : Type 0 where
@@ -31,11 +35,18 @@ pub record LoadCommand : Type 0 where
 pub record CheckCommand : Type 0 where
   pub store : List ℕ
 
+-- the interval of what a query comes to over the series of a store, no wider than a budget; or why its text is no query
+pub record QueryCommand : Type 0 where
+  pub store : List ℕ
+  pub budget : ℕ
+  pub asked : Result QueryTerm ParseErr
+
 pub data Command : Type 0 where
   once : OnceCommand → Command
   new_store : NewCommand → Command
   load : LoadCommand → Command
   check : CheckCommand → Command
+  query : QueryCommand → Command
 
 -- whether a command reads files, and whether it writes one
 abbrev pub is_reader : Option Command → Bool
@@ -44,6 +55,7 @@ is_reader (Some (once c)) = true
 is_reader (Some (new_store c)) = false
 is_reader (Some (load c)) = true
 is_reader (Some (check c)) = true
+is_reader (Some (query c)) = true
 
 abbrev pub is_writer : Option Command → Bool
 is_writer None = false
@@ -51,6 +63,7 @@ is_writer (Some (once c)) = false
 is_writer (Some (new_store c)) = true
 is_writer (Some (load c)) = true
 is_writer (Some (check c)) = false
+is_writer (Some (query c)) = false
 
 abbrev pub most_scale : ℕ
 most_scale = 6
@@ -131,6 +144,16 @@ load_of words =
 abbrev pub check_of : List (List ℕ) → Option Command
 check_of words = if is_file (word words 1) then Some (check (record { store = word words 1 })) else None
 
+-- a query of a text is one over numbers alone
+abbrev pub with_query : List ℕ → Option ℕ → Result QueryTerm ParseErr → Option Command
+with_query store None asked = None
+with_query store (Some budget) (Err e) = Some (query (record { store = store; budget = budget; asked = Err e }))
+with_query store (Some budget) (Ok q) = if is_of_numbers q then Some (query (record { store = store; budget = budget; asked = Ok q })) else None
+
+-- `query STORE BUDGET QUERY`
+abbrev pub query_of : List (List ℕ) → Option Command
+query_of words = if is_file (word words 1) then with_query (word words 1) (digits_up_to most_budget (word words 2)) (parsed (word words 3)) else None
+
 -- the command that the words spell
 unfoldable pub command_of : List (List ℕ) → Option Command
 command_of words =
@@ -138,6 +161,7 @@ command_of words =
     else if has_form words (codes "new") 4 then new_of words
     else if has_form words (codes "load") 5 then load_of words
     else if has_form words (codes "check") 2 then check_of words
+    else if has_form words (codes "query") 4 then query_of words
     else None
 
 -- the same, by the words as the program has them

@@ -7,6 +7,8 @@ pub mod Cuts
 pub mod Descents
 pub mod Lines
 pub mod Loads
+pub mod Numbers
+pub mod QueryAnswers
 pub mod Refusals
 pub mod Replay
 pub mod Statuses

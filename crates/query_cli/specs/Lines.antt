@@ -7,7 +7,9 @@ use Rattle.store_file.specs.declared.decoding.StoreErr.{StoreErr}
 use Rattle.store_file.specs.declared.decoding.StoreErr.TheVariants as stored
 use Rattle.store_file.specs.declared.adding.SeriesErr.{SeriesErr}
 use Rattle.store_file.specs.declared.adding.SeriesErr.TheVariants as series
-use Rattle.query_cli.specs.Refusals.{Refusal, usage, read_fault, replace_fault, absent, too_big, bad_csv, bad_store, series_fault, domain}
+use Rattle.expr_parse.specs.declared.error.ParseErr.{ParseErr}
+use Rattle.expr_parse.specs.declared.error.ParseErr.TheVariants as text
+use Rattle.query_cli.specs.Refusals.{Refusal, usage, read_fault, replace_fault, absent, too_big, bad_csv, bad_store, series_fault, domain, bad_query, store_fault, query_unknown, query_rank, range}
 
 -- `LO HI WIDTH NODES OPENED`
 abbrev pub answer_line : ℤ → ℤ → ℕ → ℕ → ℕ → List ℕ
@@ -51,6 +53,15 @@ series_line name series.TooLong = codes "series too long " ++ name ++ codes "\n"
 series_line name series.ArenaFull = []
 series_line name series.Memory = []
 
+-- why a text is no query; want of memory has no line
+abbrev pub query_line : ParseErr → List ℕ
+query_line (text.At place) = codes "query at " ++ decimal place ++ codes "\n"
+query_line text.TooLong = codes "query too long\n"
+query_line text.TooDeep = codes "query too deep\n"
+query_line text.TooManySums = codes "query too many sums\n"
+query_line text.TooManyNames = codes "query too many names\n"
+query_line text.Memory = []
+
 -- the line of a refusal
 abbrev pub line_of : Refusal → List ℕ
 line_of usage = codes "usage fault\n"
@@ -62,3 +73,8 @@ line_of (bad_csv e) = csv_line e
 line_of (bad_store e) = store_line e
 line_of (series_fault name e) = series_line name e
 line_of (domain sum lo hi) = codes "domain " ++ decimal sum ++ codes " " ++ signed_decimal lo ++ codes " " ++ signed_decimal hi ++ codes "\n"
+line_of (bad_query e) = query_line e
+line_of store_fault = codes "store fault\n"
+line_of (query_unknown name) = codes "query unknown " ++ name ++ codes "\n"
+line_of (query_rank sum) = codes "query rank " ++ decimal sum ++ codes "\n"
+line_of (range node) = codes "range " ++ decimal node ++ codes "\n"

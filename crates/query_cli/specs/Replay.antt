@@ -4,7 +4,7 @@ use Rattle.semantics.specs.Files.{Files, file_of, with_file}
 use Rattle.series_csv.specs.Column.{column_of}
 use Rattle.store_file.specs.Added.{IsAddable, with_series}
 use Rattle.store_file.specs.StoreValue.{StoreValue, IsStoreValue, store_image}
-use Rattle.query_cli.specs.Commands.{Command, LoadCommand, once, new_store, load, check, most_scale, most_degree}
+use Rattle.query_cli.specs.Commands.{Command, LoadCommand, once, new_store, load, check, query, most_scale, most_degree}
 
 -- an accepted command, with what it brings: a new store of a scale and a degree; a series with its readings
 pub data Accepted : Type 0 where
@@ -69,6 +69,7 @@ IsReplayed old (Some (once c)) now = Unit {0}
 IsReplayed old (Some (new_store c)) now = Stands old c.store (begins c.scale c.degree ∷ []) now
 IsReplayed old (Some (load c)) now = (h : List Accepted) → IsHistory h → file_of old c.store ≡ Some (store_image (replay h)) → AddsColumn old c h now
 IsReplayed old (Some (check c)) now = Unit {0}
+IsReplayed old (Some (query c)) now = Unit {0}
 
 -- every history makes a store
 abbrev pub HistoriesMakeStores : Type 0

@@ -1,12 +1,18 @@
 -- Commands and refusals without where their words lie.
-use Rattle.query_cli.specs.Commands.{Command, OnceCommand, NewCommand, LoadCommand, CheckCommand, once, new_store, load, check}
-use Rattle.query_cli.specs.Refusals.{Refusal, usage, read_fault, replace_fault, absent, too_big, bad_csv, bad_store, series_fault, domain}
+use Rattle.query_cli.specs.Commands.{Command, OnceCommand, NewCommand, LoadCommand, CheckCommand, QueryCommand, once, new_store, load, check, query}
+use Rattle.query_cli.specs.Refusals.{Refusal, usage, read_fault, replace_fault, absent, too_big, bad_csv, bad_store, series_fault, domain, bad_query, store_fault, range}
 use Rattle.query_cli.specs.declared.command.Command.{Command as CommandCode}
 use Rattle.query_cli.specs.declared.command.Command.TheVariants as command
 use Rattle.query_cli.specs.declared.command.Once.{Once}
 use Rattle.query_cli.specs.declared.command.New.{New}
 use Rattle.query_cli.specs.declared.command.Load.{Load}
 use Rattle.query_cli.specs.declared.command.Check.{Check}
+use Rattle.query_cli.specs.declared.command.Query.{Query}
+use Rattle.std.specs.Prelude.{Result, Ok, Err}
+use Rattle.semantics.specs.Term.{QueryTerm}
+use Rattle.expr.specs.declared.expression.Query.{Query as QueryTree}
+use Rattle.expr_parse.specs.declared.error.ParseErr.{ParseErr}
+use Rattle.expr.specs.Terms.{query_term_of}
 use Rattle.query_cli.specs.declared.refusal.Refusal.{Refusal as RefusalCode}
 use Rattle.query_cli.specs.declared.refusal.Refusal.TheVariants as refusal
 
@@ -22,11 +28,19 @@ load_view l = record { store = l.store.now; name = l.name; csv = l.csv.now; colu
 abbrev pub check_view : Check → CheckCommand
 check_view c = record { store = c.store.now }
 
+abbrev pub asked_view : Result QueryTree ParseErr → Result QueryTerm ParseErr
+asked_view (Ok q) = Ok (query_term_of q)
+asked_view (Err e) = Err e
+
+abbrev pub query_view : Query → QueryCommand
+query_view q = record { store = q.store.now; budget = q.budget; asked = asked_view q.asked }
+
 abbrev pub command_view : CommandCode → Command
 command_view (command.Once o) = once (once_view o)
 command_view (command.New n) = new_store (new_view n)
 command_view (command.Load l) = load (load_view l)
 command_view (command.Check c) = check (check_view c)
+command_view (command.Query q) = query (query_view q)
 
 abbrev pub refusal_view : RefusalCode → Refusal
 refusal_view refusal.Usage = usage
@@ -38,3 +52,6 @@ refusal_view (refusal.BadCsv e) = bad_csv e
 refusal_view (refusal.BadStore e) = bad_store e
 refusal_view (refusal.SeriesFault name e) = series_fault name e
 refusal_view (refusal.Domain sum lo hi) = domain sum lo hi
+refusal_view (refusal.BadQuery e) = bad_query e
+refusal_view refusal.StoreFault = store_fault
+refusal_view (refusal.Range node) = range node

@@ -97,8 +97,8 @@ fn positions(n: u32, command: &Once<'_>) -> (u32, u32)
     }
 }
 
-// The line of an answer.
-fn line_of(alloc: Global, answer: &Answer) -> Result<String, AllocError>
+/// The line of an answer.
+pub(crate) fn line_of(alloc: Global, answer: &Answer) -> Result<String, AllocError>
     ensures { IfOk result (λ t. string_bytes t ≡ answer_line answer.now.lo answer.now.hi answer.now.width answer.now.nodes answer.now.opened) }
 {
     let Answer {

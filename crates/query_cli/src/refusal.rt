@@ -1,14 +1,15 @@
 // Why a command is refused, and what is replied then.
 
 ghost use Rattle.std.specs.Prelude.{◌≡◌, IfOk, string_bytes};
-ghost use Rattle.query_cli.specs.Lines.{csv_line, line_of, series_line, store_line};
-ghost use Rattle.query_cli.specs.Refusals.{domain, status_of};
+ghost use Rattle.query_cli.specs.Lines.{csv_line, line_of, query_line, series_line, store_line};
+ghost use Rattle.query_cli.specs.Refusals.{domain, range, status_of};
 ghost use Rattle.query_cli.specs.Stops.{IfRefused, IsReplyOf};
 ghost use Rattle.query_cli.specs.Views.{refusal_view};
 
 use crate::names::name_text;
 use crate::status::Status;
 use expr::Name;
+use expr_parse::ParseErr;
 use series_csv::CsvErr;
 use std::alloc::{AllocError, Global};
 use store_file::{SeriesErr, StoreErr};
@@ -25,6 +26,10 @@ pub(crate) enum Refusal<'a> {
     BadStore(StoreErr),
     SeriesFault(Name, SeriesErr),
     Domain { sum: u32, lo: i64, hi: i64 },
+    BadQuery(ParseErr),
+    /// The bytes stand for no store, of which no place is told.
+    StoreFault,
+    Range(u32),
 }
 
 /// A status, and the text that is written with it.
@@ -55,6 +60,9 @@ fn status_of_refusal(refusal: &Refusal<'_>) -> Status
         Refusal::BadStore(_) => Status::BadStore,
         Refusal::SeriesFault(..) => Status::SeriesFault,
         Refusal::Domain { .. } => Status::Domain,
+        Refusal::BadQuery(_) => Status::BadQuery,
+        Refusal::StoreFault => Status::BadStore,
+        Refusal::Range(_) => Status::Range,
     }
 }
 
@@ -111,6 +119,26 @@ fn line_of_domain(alloc: Global, sum: u32, lo: i64, hi: i64) -> Result<String, A
     Ok(text)
 }
 
+fn line_of_text(alloc: Global, e: ParseErr) -> Result<String, AllocError>
+    ensures { IfOk result (λ t. string_bytes t ≡ query_line e) }
+{
+    match e {
+        ParseErr::At(place) => format!(in alloc; "query at {place}\n"),
+        ParseErr::TooLong => String::from_str(alloc, "query too long\n"),
+        ParseErr::TooDeep => String::from_str(alloc, "query too deep\n"),
+        ParseErr::TooManySums => String::from_str(alloc, "query too many sums\n"),
+        ParseErr::TooManyNames => String::from_str(alloc, "query too many names\n"),
+        ParseErr::Memory => Err(AllocError),
+    }
+}
+
+fn line_of_range(alloc: Global, node: u32) -> Result<String, AllocError>
+    ensures { IfOk result (λ t. string_bytes t ≡ line_of (range node)) }
+{
+    let text = format!(in alloc; "range {node}\n")?;
+    Ok(text)
+}
+
 fn line_of_refusal(alloc: Global, refusal: &Refusal<'_>) -> Result<String, AllocError>
     ensures { IfOk result (λ t. string_bytes t ≡ line_of (refusal_view refusal.now)) }
 {
@@ -124,6 +152,9 @@ fn line_of_refusal(alloc: Global, refusal: &Refusal<'_>) -> Result<String, Alloc
         Refusal::BadStore(e) => line_of_store(alloc, e),
         Refusal::SeriesFault(name, e) => line_of_series(alloc, name, *e),
         Refusal::Domain { sum, lo, hi } => line_of_domain(alloc, *sum, *lo, *hi),
+        Refusal::BadQuery(e) => line_of_text(alloc, *e),
+        Refusal::StoreFault => String::from_str(alloc, "store fault\n"),
+        Refusal::Range(node) => line_of_range(alloc, *node),
     }
 }
 

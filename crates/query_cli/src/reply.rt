@@ -12,6 +12,7 @@ use crate::command::Command;
 use crate::load::load_series;
 use crate::new::begin_store;
 use crate::once::answer_once;
+use crate::query::answer_query;
 use crate::refusal::{Refusal, Reply, Stop, refuse};
 use crate::status::Status;
 use crate::words::read_command;
@@ -31,7 +32,10 @@ fn answer<S: Shelf>(alloc: Global, words: &[String], shelf: &mut S) -> Result<St
     ensures reads_nothing { is_reader (command_in words.now) ≡ false → S.read_faults shelf.new ≡ S.read_faults shelf.old }
     ensures writes_nothing { is_writer (command_in words.now) ≡ false → S.replace_faults shelf.new ≡ S.replace_faults shelf.old }
 {
-    let Some(command) = read_command(words) else {
+    let Ok(read) = read_command(alloc, words) else {
+        return Err(Stop::Memory);
+    };
+    let Some(command) = read else {
         return Err(refuse(alloc, &Refusal::Usage));
     };
     match &command {
@@ -39,6 +43,7 @@ fn answer<S: Shelf>(alloc: Global, words: &[String], shelf: &mut S) -> Result<St
         Command::New(new) => begin_store(alloc, new, shelf),
         Command::Load(load) => load_series(alloc, load, shelf),
         Command::Check(check) => check_store(alloc, check, shelf),
+        Command::Query(query) => answer_query(alloc, query, shelf),
     }
 }
 

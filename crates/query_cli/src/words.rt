@@ -1,12 +1,15 @@
 // The words of a command line.
 
-ghost use Rattle.std.specs.Prelude.{◌≡◌, ◌<◌, length, map, option_map, string_bytes};
-ghost use Rattle.query_cli.specs.Commands.{check_of, command_in, has_form, is_file, load_of, new_of, once_of, word};
+ghost use Rattle.std.specs.Prelude.{◌≡◌, ◌<◌, IfOk, length, map, option_map, string_bytes};
+ghost use Rattle.query_cli.specs.Commands.{check_of, command_in, has_form, is_file, load_of, new_of, once_of, query_of, word};
 ghost use Rattle.query_cli.specs.Views.{command_view};
 
-use crate::command::{Check, Command, Load, New, Once};
+use crate::command::{Check, Command, Load, New, Once, Query};
 use crate::number::{read_digit, read_digits, read_whole};
+use crate::numbers::is_of_numbers;
 use expr::Name;
+use expr_parse::{ParseErr, parse};
+use std::alloc::{AllocError, Global};
 
 const MOST_SCALE: u8 = 6;
 
@@ -120,22 +123,60 @@ fn read_check(words: &[String]) -> Option<Command<'_>>
     }))
 }
 
+fn read_query(alloc: Global, words: &[String]) -> Result<Option<Command<'_>>, AllocError>
+    requires { length words.now ≡ 4 }
+    ensures { IfOk result (λ c. option_map command_view c ≡ query_of (map string_bytes words.now)) }
+{
+    if !is_file_word(word_at(words, 1)) {
+        return Ok(None);
+    }
+    let Some(budget) = read_digits(word_at(words, 2).as_bytes(), MOST_BUDGET) else {
+        return Ok(None);
+    };
+    let store = word_at(words, 1);
+    match parse(alloc, word_at(words, 3).as_bytes()) {
+        Ok(q) => {
+            if !is_of_numbers(&q) {
+                return Ok(None);
+            }
+            let asked = Ok(q);
+            Ok(Some(Command::Query(Query {
+                store,
+                budget,
+                asked,
+            })))
+        }
+        Err(ParseErr::Memory) => Err(AllocError),
+        Err(e) => {
+            let asked = Err(e);
+            Ok(Some(Command::Query(Query {
+                store,
+                budget,
+                asked,
+            })))
+        }
+    }
+}
+
 /// The command that the words spell.
 #[tactic(auto, unfolding(crate::specs::Commands::command_of))]
-pub(crate) fn read_command(words: &[String]) -> Option<Command<'_>>
-    ensures { option_map command_view result ≡ command_in words.now }
+pub(crate) fn read_command(alloc: Global, words: &[String]) -> Result<Option<Command<'_>>, AllocError>
+    ensures { IfOk result (λ c. option_map command_view c ≡ command_in words.now) }
 {
     if is_form(words, "once", 7) {
-        return read_once(words);
+        return Ok(read_once(words));
     }
     if is_form(words, "new", 4) {
-        return read_new(words);
+        return Ok(read_new(words));
     }
     if is_form(words, "load", 5) {
-        return read_load(words);
+        return Ok(read_load(words));
     }
     if is_form(words, "check", 2) {
-        return read_check(words);
+        return Ok(read_check(words));
     }
-    None
+    if is_form(words, "query", 4) {
+        return read_query(alloc, words);
+    }
+    Ok(None)
 }

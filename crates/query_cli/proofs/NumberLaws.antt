@@ -1,8 +1,8 @@
 -- Of a query over numbers alone neither the value nor the admission depends on a store.
 use Rattle.std.proofs.Common.{◌≡◌, ℕ, ◌+◌, ℤ, ◌+ℤ◌, ◌-ℤ◌, ◌*ℤ◌, Bool, true, false, cond, ltb, ◌^◌, List, [], ◌∷◌, ◌++◌, length, length-append, ◌∙◌, refl, sym, ap}
-use Rattle.std.specs.Prelude.{◌&&◌, ◌*◌, Option, Some, None, find}
+use Rattle.std.specs.Prelude.{◌&&◌, ◌*◌, Some, None, find}
 use Rattle.std.specs.Option.{option_map, option_or}
-use Rattle.semantics.specs.Admission.{Fact, Refusal, bound_of, domain_rule, first_refusal, is_unknown, nodes_of, query_names, range_rule, rank_rule, refusal_of, sums_of, too_great, unknown}
+use Rattle.semantics.specs.Admission.{Fact, bound_of, domain_rule, first_refusal, is_unknown, nodes_of, query_names, range_rule, rank_rule, refusal_of, sums_of, too_great, unknown}
 use Rattle.semantics.specs.Plain.{plain}
 use Rattle.semantics.specs.Term.{QueryTerm, number, sum, variance, covariance, add, sub, mul}
 use Rattle.semantics.specs.Value.{query_value}

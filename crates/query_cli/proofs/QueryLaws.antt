@@ -1,6 +1,6 @@
 -- `query` by its steps.
-use Rattle.std.proofs.Common.{◌≡◌, ◌≢◌, ◌≤◌, ℕ, ℤ, Bool, true, List, Option, Some, None, Result, Ok, Err, ◌≤ℤ◌, refl, sym, ap, ◌∙◌, inl, inr, arith}
-use Rattle.std.specs.Prelude.{◌⊎◌, pos, ◌-ℤ◌}
+use Rattle.std.proofs.Common.{◌≡◌, ◌≢◌, ℕ, ℤ, true, List, Option, Some, None, Ok, Err, sym, ap, ◌∙◌, inl, inr, arith}
+use Rattle.std.specs.Prelude.{◌⊎◌}
 use Rattle.std.specs.Result.{result_err}
 use Rattle.std.proofs.lemmas.Int.{ints}
 use Rattle.semantics.specs.Admission as admission
@@ -15,8 +15,8 @@ use Rattle.query_cli.specs.Causes.{IsCause, IsDone}
 use Rattle.query_cli.specs.Commands.{QueryCommand, query}
 use Rattle.query_cli.specs.Lines.{answer_line}
 use Rattle.query_cli.specs.Numbers.{is_of_numbers, number_refusal, number_value}
-use Rattle.query_cli.specs.QueryAnswers.{Asked, IsAdmittedValue, IsIntervalLine, IsValueLine, admitted_in, asked_by, asked_in, known_store_in, readings_in, value_of}
-use Rattle.query_cli.specs.Refusals.{Refusal, bad_query, query_refusal, range, read_fault, store_fault, IsOfAdmission, IsOfAsked, IsOfFile}
+use Rattle.query_cli.specs.QueryAnswers.{Asked, IsAdmittedValue, IsValueLine, admitted_in, asked_by, asked_in, known_store_in, readings_in, value_of}
+use Rattle.query_cli.specs.Refusals.{Refusal, bad_query, query_refusal, range, read_fault, store_fault, IsOfAdmission, IsOfAsked}
 use Rattle.query_cli.specs.Steps.{and_then, file_in, most_store, refused_as, unless_refused}
 use Rattle.query_cli.specs.Stops.{IfRefused, IsStepRefusal, IsUnread}
 use Rattle.query_cli.specs.declared.refusal.Stop.{Stop}

@@ -1,5 +1,5 @@
 -- Queries over numbers alone, which have no sum: neither readings nor facts of series enter.
-use Rattle.std.specs.Prelude.{ℕ, ℤ, List, [], Option, Bool, true, false, ◌&&◌}
+use Rattle.std.specs.Prelude.{ℕ, ℤ, [], Option, Bool, true, false, ◌&&◌}
 use Rattle.semantics.specs.Admission.{Refusal, bound_of, first_refusal, nodes_of, range_rule}
 use Rattle.semantics.specs.Term.{QueryTerm, number, sum, variance, covariance, add, sub, mul}
 use Rattle.semantics.specs.Value.{query_value}

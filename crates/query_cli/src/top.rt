@@ -17,7 +17,7 @@ use std::alloc::Global;
 /// Only want of memory is free: it may come in place of any other answer.
 pub fn run<S: Shelf, O: Out>(alloc: Global, words: &[String], shelf: &mut S, out: &mut O) -> Status
     // With status 0 the output grew by the command's line; that of `once` has an interval that holds the plain sum of the
-    // readings and is no wider than the budget.
+    // readings, and that of `query` one that holds what the query comes to; both are no wider than the budget.
     ensures answer { result ≡ Status.Ok → Grew (O.written out.old) (O.written out.new) (IsAnswer (S.files shelf.old) (command_in words.now)) }
 
     // The status is the one that words and files call for; it yields to want of memory and to faults.

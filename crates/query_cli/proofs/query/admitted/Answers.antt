@@ -1,4 +1,4 @@
-use Rattle.std.proofs.Common.{◌∙◌, rules}
+use Rattle.std.proofs.Common.{rules}
 use Rattle.expr.specs.Terms.{query_term_of}
 use Rattle.query_cli.proofs.QueryLaws.{admitted_value, all_not_admitted}
 use Rattle.query_cli.proofs.query.admitted.Goals as goal

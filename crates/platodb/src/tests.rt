@@ -205,7 +205,10 @@ fn queries(rt: HostRuntime) -> Result<(), Fail> {
         ("query a.csv", Status::Usage, "usage fault\n"),
     ] {
         let (ended, out) = outcome(alloc, line, EMPTY, &[], &[])?;
-        assert!(rt; ended == status && out.bytes() == written.as_bytes(), "{line}");
+        assert!(rt;
+            ended == status && out.bytes() == written.as_bytes(),
+            "{line}"
+        );
     }
     let (ended, out) = outcome(alloc, "query a.csv 0 1", b"PLAT", &[], &[])?;
     assert!(rt; ended == Status::BadStore && out.bytes() == b"store fault\n".as_slice());

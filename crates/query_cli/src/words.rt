@@ -160,7 +160,10 @@ fn read_query(alloc: Global, words: &[String]) -> Result<Option<Command<'_>>, Al
 
 /// The command that the words spell.
 #[tactic(auto, unfolding(crate::specs::Commands::command_of))]
-pub(crate) fn read_command(alloc: Global, words: &[String]) -> Result<Option<Command<'_>>, AllocError>
+pub(crate) fn read_command(
+    alloc: Global,
+    words: &[String],
+) -> Result<Option<Command<'_>>, AllocError>
     ensures { IfOk result (λ c. option_map command_view c ≡ command_in words.now) }
 {
     if is_form(words, "once", 7) {

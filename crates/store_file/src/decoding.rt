@@ -17,8 +17,11 @@ use seg_tree::{Arena, Tree};
 use std::alloc::Global;
 use tree_file::tree_bytes;
 
+#[cfg(test)]
+mod tests;
+
 /// Why bytes are no store.
-#[derive(Clone, Copy, Debug, Drop)]
+#[derive(Clone, Copy, Debug, Drop, PartialEq, Eq)]
 pub enum StoreErr {
     /// They have not the form of a store's bytes; the place is that of the part that is refused.
     NotAStore(u64),

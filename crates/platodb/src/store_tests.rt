@@ -2,7 +2,7 @@
 
 use crate::tests::{ALTERNATING, words_of};
 use outside::{Bytes, MemOut, MemShelf};
-use query_cli::run;
+use query_cli::{Status, run};
 use std::alloc::Global;
 use std::collections::BTreeMap;
 use std::process::Abort;
@@ -183,4 +183,18 @@ fn failing_calls(rt: HostRuntime) -> Result<(), Fail> {
             ("load s x a.csv v", "loaded x 32\n", 0),
         ],
     )
+}
+
+// A load whose line is cut off was done whole.
+#[test]
+fn failing_put(rt: HostRuntime) -> Result<(), Fail> {
+    let alloc = rt.alloc();
+    let mut shelf = shelf_with(alloc, &[("a.csv", ALTERNATING)], &[], &[])?;
+    says(&rt, alloc, &mut shelf, &[("new s 0 0", "new\n", 0)])?;
+    let mut out = MemOut::new(alloc, [(1, 3)].to_vec(alloc)?);
+    let words = words_of(alloc, "load s x a.csv v")?;
+    let status = run(alloc, &words, &mut shelf, &mut out);
+    assert!(rt; out.bytes() == b"loa".as_slice());
+    assert!(rt; status == Status::OutFault);
+    says(&rt, alloc, &mut shelf, &[("check s", "ok 1 32\n", 0)])
 }

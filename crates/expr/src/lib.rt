@@ -8,7 +8,7 @@ mod measures;
 mod name;
 mod size;
 
-pub use admission::AdmitErr;
+pub use admission::{AdmitErr, admit};
 pub use expression::{Bounds, Query, Series};
 pub use facts::Fact;
 pub use measures::{domain, h_units, rank};

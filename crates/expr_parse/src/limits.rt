@@ -1,6 +1,6 @@
 // The limits of a query.
 
-ghost use Rattle.std.specs.Prelude.{◌≡◌, ◌≤◌, IfErr, IfOk, List, Err, Ok, min, length};
+ghost use Rattle.std.specs.Prelude.{◌≡◌, ◌≤◌, ◌<◌, true, false, IfErr, IfOk, List, Err, Ok, min, length};
 ghost use Rattle.semantics.specs.Limits.{most_names, query_depth, series_depth, sums_in};
 ghost use Rattle.semantics.specs.Measures.{names_in};
 ghost use Rattle.expr.specs.Terms.{query_term_of, term_of};
@@ -12,29 +12,34 @@ use crate::lexeme::Lexeme;
 use crate::series::next;
 use expr::{Query, Series};
 
-/// The depth of a series, or 65 where it is greater.
-fn series_depth(t: &Series) -> u32
-    ensures { result ≡ min (series_depth (term_of t.now)) 65 }
+/// Whether a series is at most so deep. It goes no deeper than that to see it.
+fn is_series_within(t: &Series, most: u32) -> bool
+    ensures within { result ≡ true → series_depth (term_of t.now) ≤ most }
+    ensures beyond { result ≡ false → most < series_depth (term_of t.now) }
 {
     match t {
-        Series::Base(_) | Series::Const { .. } | Series::Bare(_) => 1,
+        Series::Base(_) | Series::Const { .. } | Series::Bare(_) => most >= 1,
         Series::Plus(u, v) | Series::Minus(u, v) | Series::Times(u, v) => {
-            (1 + series_depth(u).max(series_depth(v))).min(65)
+            most >= 1 && is_series_within(u, most - 1) && is_series_within(v, most - 1)
         }
-        Series::Shift(u, _) => (1 + series_depth(u)).min(65),
+        Series::Shift(u, _) => most >= 1 && is_series_within(u, most - 1),
     }
 }
 
-fn query_depth(q: &Query) -> u32
-    ensures { result ≡ min (query_depth (query_term_of q.now)) 65 }
+/// Whether a query is at most so deep. It goes no deeper than that to see it.
+fn is_within(q: &Query, most: u32) -> bool
+    ensures within { result ≡ true → query_depth (query_term_of q.now) ≤ most }
+    ensures beyond { result ≡ false → most < query_depth (query_term_of q.now) }
 {
     match q {
-        Query::Number(_) => 1,
-        Query::Sum(t, _) => (1 + series_depth(t)).min(65),
-        Query::Var(t, _) => (4 + series_depth(t)).min(65),
-        Query::Cov(t, u, _) => (4 + series_depth(t).max(series_depth(u))).min(65),
+        Query::Number(_) => most >= 1,
+        Query::Sum(t, _) => most >= 1 && is_series_within(t, most - 1),
+        Query::Var(t, _) => most >= 4 && is_series_within(t, most - 4),
+        Query::Cov(t, u, _) => {
+            most >= 4 && is_series_within(t, most - 4) && is_series_within(u, most - 4)
+        }
         Query::Add(a, b) | Query::Sub(a, b) | Query::Mul(a, b) => {
-            (1 + query_depth(a).max(query_depth(b))).min(65)
+            most >= 1 && is_within(a, most - 1) && is_within(b, most - 1)
         }
     }
 }
@@ -91,7 +96,7 @@ pub(crate) fn limited(q: Query) -> Result<Query, ParseErr>
     ensures names { IfOk result (λ r. most_names (query_term_of q) ≤ 32) }
     ensures refused { IfErr result (λ e. limited (query_term_of q) ≡ Err e) }
 {
-    if query_depth(&q) > 64 {
+    if !is_within(&q, 64) {
         return Err(ParseErr::TooDeep);
     }
     if sums_in(&q) > 16 {

@@ -7,15 +7,7 @@ top=$(CDPATH= cd -- "$(dirname -- "$0")/.." && pwd)
 n=${1:-100000}
 folder=$(mktemp -d)
 trap 'rm -rf "$folder"' EXIT
-awk -v n="$n" 'BEGIN {
-    print "v"
-    s = 1
-    for (i = 0; i < n; i++) {
-        s = (s * 16807) % 2147483647
-        j = i % 1024
-        print 10 * (j < 512 ? j : 1024 - j) + s % 256 - 128
-    }
-}' > "$folder/long.csv"
+awk -v n="$n" -f "$top/bench/saw.awk" > "$folder/long.csv"
 spread=$(awk 'NR > 1 { if (NR == 2 || $1 < lo) lo = $1; if (NR == 2 || $1 > hi) hi = $1 } END { print hi - lo }' "$folder/long.csv")
 cd "$folder"
 for part in 10 20; do

@@ -3,19 +3,10 @@
 # Usage: bench/large_store.sh [N]
 set -eu
 top=$(CDPATH= cd -- "$(dirname -- "$0")/.." && pwd)
-n=${1:-1048576}
 folder=$(mktemp -d)
 trap 'rm -rf "$folder"' EXIT
-awk -v n="$n" 'BEGIN {
-    print "v"
-    s = 1
-    for (i = 0; i < n; i++) {
-        s = (s * 16807) % 2147483647
-        j = i % 1024
-        print 10 * (j < 512 ? j : 1024 - j) + s % 256 - 128
-    }
-}' > "$folder/long.csv"
 cd "$folder"
+awk -v n="${1:-1048576}" -f "$top/bench/saw.awk" > long.csv
 "$top/bin/platodb" new long.store 0 2
 time "$top/bin/platodb" load long.store x long.csv v
 wc -c long.store

@@ -3,3 +3,4 @@ pub mod Fetching
 pub mod MapFiles
 pub mod MemOuts
 pub mod MemShelves
+pub mod Parts

@@ -5,11 +5,12 @@ ghost use Rattle.semantics.specs.Faults.{Rose};
 ghost use Rattle.semantics.specs.Files.{file_of, with_file};
 ghost use Rattle.outside.specs.Calls.{calls_after, fails_next};
 ghost use Rattle.outside.specs.Fetching.{IsFetched};
+ghost use Rattle.outside.specs.Parts.{IsPartRead, RisesBy};
 ghost use Rattle.outside.specs.MapFiles.{files_of};
 
 use crate::failing_calls::fails_next;
 use crate::file_bytes::Bytes;
-use crate::shelves::{FetchErr, Fetched, ReplaceErr, Shelf};
+use crate::shelves::{Failed, FetchErr, Fetched, ReplaceErr, Shelf};
 use std::alloc::Global;
 use std::collections::BTreeMap;
 
@@ -23,6 +24,10 @@ pub struct MemShelf {
     reads: u64,
     fail_replaces: Vec<u64>,
     replaces: u64,
+    /// How many bytes were handed out in parts, while the number fits.
+    handed: Option<u64>,
+    /// How often a file was fetched, while the number fits.
+    fetches: Option<u64>,
 }
 
 impl MemShelf {
@@ -48,6 +53,8 @@ impl MemShelf {
             reads: 0,
             fail_replaces,
             replaces: 0,
+            handed: Some(0),
+            fetches: Some(0),
         }
     }
 
@@ -107,6 +114,10 @@ impl Shelf for MemShelf {
 
     ghost replace_faults = { replace_faults_of };
 
+    ghost handed = { λ s. s.handed };
+
+    ghost fetches = { λ s. s.fetches };
+
     #[tactic(auto, using(crate::proofs::CallLaws::faults_stay, crate::proofs::CallLaws::fault_rises))]
     fn fetch(&mut self, name: &str, limit: u64, into: &mut Vec<u8>) -> Result<Fetched, FetchErr>
         ensures answer { IfOk result (λ found. IsFetched (file_of (files_in self.old) name.now) limit found into.new.items) }
@@ -119,12 +130,16 @@ impl Shelf for MemShelf {
         ensures read_faults_stay { read_faults_of self.old ≤ read_faults_of self.new }
         ensures replace_faults_stay { replace_faults_of self.new ≡ replace_faults_of self.old }
 
+        ensures handed_stays { self.new.handed ≡ self.old.handed }
+        ensures fetches { RisesBy 1 self.old.fetches self.new.fetches }
+
         // One more reading call is made.
         ensures reads { reads_made self.new ≡ calls_after (reads_made self.old) }
         ensures replaces_stay { replaces_made self.new ≡ replaces_made self.old }
         ensures listed_reads_stay { failing_reads self.new ≡ failing_reads self.old }
         ensures listed_replaces_stay { failing_replaces self.new ≡ failing_replaces self.old }
     {
+        self.fetches = risen(self.fetches, 1);
         let fails = fails_next(&self.fail_reads, self.reads);
         self.reads = self.reads.saturating_add(1);
         if fails {
@@ -151,6 +166,9 @@ impl Shelf for MemShelf {
         ensures replace_faults_stay { replace_faults_of self.old ≤ replace_faults_of self.new }
         ensures read_faults_stay { read_faults_of self.new ≡ read_faults_of self.old }
 
+        ensures handed_stays { self.new.handed ≡ self.old.handed }
+        ensures fetches_stay { self.new.fetches ≡ self.old.fetches }
+
         // One more replacing call is made.
         ensures replaces { replaces_made self.new ≡ calls_after (replaces_made self.old) }
         ensures reads_stay { reads_made self.new ≡ reads_made self.old }
@@ -164,4 +182,54 @@ impl Shelf for MemShelf {
         }
         put(self.alloc, &mut self.files, name, bytes)
     }
+
+    #[tactic(auto, using(crate::proofs::CallLaws::faults_stay, crate::proofs::CallLaws::fault_rises))]
+    fn size(&mut self, name: &str) -> Result<Option<u64>, Failed> {
+        let fails = fails_next(&self.fail_reads, self.reads);
+        self.reads = self.reads.saturating_add(1);
+        if fails {
+            return Err(Failed);
+        }
+        match self.file(name) {
+            Some(bytes) => Ok(Some(bytes.len() as u64)),
+            None => Ok(None),
+        }
+    }
+
+    #[tactic(auto, using(crate::proofs::CallLaws::faults_stay, crate::proofs::CallLaws::fault_rises))]
+    fn part(&mut self, name: &str, at: u64, buf: &mut [u8]) -> Result<bool, Failed> {
+        let fails = fails_next(&self.fail_reads, self.reads);
+        self.reads = self.reads.saturating_add(1);
+        if fails {
+            return Err(Failed);
+        }
+        let Some(bytes) = self.file(name) else {
+            return Ok(false);
+        };
+        if !copy_part(bytes, at, buf) {
+            return Ok(false);
+        }
+        self.handed = risen(self.handed, buf.len() as u64);
+        Ok(true)
+    }
+}
+
+/// A number that rises, while it fits.
+fn risen(count: Option<u64>, by: u64) -> Option<u64>
+    ensures { RisesBy by count result }
+{
+    count?.checked_add(by)
+}
+
+/// Copies the bytes of a file from a place on, where it has them.
+fn copy_part(bytes: &[u8], at: u64, buf: &mut [u8]) -> bool
+    ensures { IsPartRead (Some bytes.now) at result buf.old buf.new }
+{
+    let len = bytes.len() as u64;
+    if at > len || len - at < buf.len() as u64 {
+        return false;
+    }
+    let from = at as usize;
+    buf.copy_from_slice(&bytes[from..from + buf.len()]);
+    true
 }

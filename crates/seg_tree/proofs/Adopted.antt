@@ -12,7 +12,7 @@ use Rattle.seg_tree.specs.declared.arena.Tree.{Tree}
 use Rattle.seg_tree.specs.declared.nodes.Node.{Node}
 use Rattle.seg_tree.specs.Adopted.{HaveTree, IsTreeWith, first_seg, rebuilt, rebuilt_series, TreesDiffer}
 use Rattle.seg_tree.specs.Trees.{IsTreeAt, IsTreeOf, value_at, value_of}
-use Rattle.seg_tree.specs.Linked.{IsLeaf, IsFork, kept, left_child, right_child, IsLinked, tree_at, Holds, Extends}
+use Rattle.seg_tree.specs.Linked.{Places, IsPut, IsLeaf, IsFork, kept, left_child, right_child, IsLinked, tree_at, Holds, Extends}
 use Rattle.seg_tree.proofs.Extended.{leaf_holds, fork_holds, Holds-Extends}
 
 few_of : (n : ℕ) (t : Option SegTree) → IsSeriesTree n t → n ≤ 2 ^ 20
@@ -79,35 +79,35 @@ length-nodes segs xs h some = sym (ap length h.1.segments) ∙ length-all_segs (
 
 -- ---- what a step of adopting adds
 
--- a leaf that was pushed is the tree of its segment and its readings
-pub adopted_leaf : (old new : List Node) (p start : ℕ) (segs : List Seg) (xs : List ℤ) (x : Node) → length xs ≤ 16 → (p ≡ length old) × (new ≡ old ++ x ∷ [])
+-- a leaf that was put is the tree of its segment and its readings
+pub adopted_leaf : (old new : Places) (p start : ℕ) (segs : List Seg) (xs : List ℤ) (x : Node) → length xs ≤ 16 → IsPut old new p x
     → x.seg ≡ first_seg segs → IsLeaf (length xs) x.below → take (length xs) (kept x.below) ≡ xs
     → Holds new p (plan start (length xs)) (rebuilt (plan start (length xs)) segs xs)
-adopted_leaf old new p start segs xs x short pushed seg at_end holds =
-    let made = leaf_holds old x start (length xs) at_end in
-    rw (plan-leaf start (length xs) short, pushed.0, pushed.1) (subst (λ t. Holds (old ++ x ∷ []) (length old) (leaf start (length xs)) t) (ap₂ tip seg holds) made)
+adopted_leaf old new p start segs xs x short put seg at_end holds =
+    let made = leaf_holds old new p x start (length xs) put at_end in
+    rw (plan-leaf start (length xs) short) (subst (λ t. Holds new p (leaf start (length xs)) t) (ap₂ tip seg holds) made)
 
--- a fork that was pushed over the trees of both parts is the tree of the whole
-pub adopted_fork : (a b old new : List Node) (p start s : ℕ) (segs : List Seg) (xs : List ℤ) (x : Node) → IsSplit (length xs) s → 0 < s
+-- a fork that was put over the trees of both parts is the tree of the whole
+pub adopted_fork : (a b old new : Places) (p start s : ℕ) (segs : List Seg) (xs : List ℤ) (x : Node) → IsSplit (length xs) s → 0 < s
     → Holds a (left_child x.below) (plan start s) (rebuilt (plan start s) (take (node_count s) (drop 1 segs)) (take s xs))
     → Holds b (right_child x.below) (plan (start + s) (length xs - s)) (rebuilt (plan (start + s) (length xs - s)) (drop (node_count s) (drop 1 segs)) (drop s xs))
-    → Extends a old → Extends b old → (p ≡ length old) × (new ≡ old ++ x ∷ []) → x.seg ≡ first_seg segs → IsFork x.below
+    → Extends a old → Extends b old → IsPut old new p x → x.seg ≡ first_seg segs → IsFork x.below
     → Holds new p (plan start (length xs)) (rebuilt (plan start (length xs)) segs xs)
-adopted_fork a b old new p start s segs xs x split some l r ea eb pushed seg forks =
+adopted_fork a b old new p start s segs xs x split some l r ea eb put seg forks =
     let left = plan start s in
     let right = plan (start + s) (length xs - s) in
     let below = drop 1 segs in
     let lt = Holds-Extends a old (left_child x.below) left (rebuilt left (take (node_count s) below) (take s xs)) ea l in
     let rt = Holds-Extends b old (right_child x.below) right (rebuilt right (drop (node_count s) below) (drop s xs)) eb r in
-    let made = fork_holds old x start (length xs) left right _ _ forks lt rt in
-    rw (plan-fork start (length xs) s split, pushed.0, pushed.1, width-plan start s, count-plan start s some)
-    (subst (λ g. Holds (old ++ x ∷ []) (length old) (fork start (length xs) left right) (node g (rebuilt left (take (node_count s) below) (take s xs)) (rebuilt right (drop (node_count s) below) (drop s xs)))) seg made)
+    let made = fork_holds old new p x start (length xs) left right _ _ put forks lt rt in
+    rw (plan-fork start (length xs) s split, width-plan start s, count-plan start s some)
+    (subst (λ g. Holds new p (fork start (length xs) left right) (node g (rebuilt left (take (node_count s) below) (take s xs)) (rebuilt right (drop (node_count s) below) (drop s xs)))) seg made)
 
 pub all_behind : (segs : List Seg) → take (length segs - 1) (drop 1 segs) ≡ drop 1 segs
 all_behind segs = take_all (length segs - 1) (drop 1 segs) (omega (arith, length-drop 1 segs))
 
 -- a part that was added, told by its range
-pub adopted_part : (nodes : List Node) (p start n : ℕ) (gs hs : List Seg) (ys zs : List ℤ) → gs ≡ hs → ys ≡ zs → length ys ≡ n
+pub adopted_part : (nodes : Places) (p start n : ℕ) (gs hs : List Seg) (ys zs : List ℤ) → gs ≡ hs → ys ≡ zs → length ys ≡ n
     → Holds nodes p (plan start (length ys)) (rebuilt (plan start (length ys)) gs ys) → Holds nodes p (plan start n) (rebuilt (plan start n) hs zs)
 adopted_part nodes p start n gs hs ys zs same_segs same len t =
     subst (λ ws. Holds nodes p (plan start n) (rebuilt (plan start n) hs ws)) same
@@ -117,7 +117,7 @@ adopted_part nodes p start n gs hs ys zs same_segs same len t =
 -- ---- the whole tree that was added
 
 -- the tree that was added at a place is the one tree with these segments and these readings
-pub adopted-value : (nodes : List Node) (p : ℕ) (segs : List Seg) (xs : List ℤ) (t : Option SegTree) → 0 < length xs
+pub adopted-value : (nodes : Places) (p : ℕ) (segs : List Seg) (xs : List ℤ) (t : Option SegTree) → 0 < length xs
     → Holds nodes p (plan 0 (length xs)) (rebuilt (plan 0 (length xs)) segs xs) → IsTreeWith segs xs t → Some (tree_at nodes p (plan 0 (length xs))) ≡ t
 adopted-value nodes p segs xs t some holds h = ap Some holds.content ∙ sym (rebuilt_some (length xs) segs xs some) ∙ tree-rebuilt segs xs t h
 
@@ -125,16 +125,16 @@ over_some : (n : ℕ) (s : SegTree) (t : Option SegTree) → Some s ≡ t → Is
 over_some n s t e h = subst (IsSeriesTree n) (sym e) h
 
 -- and it is a tree of these nodes
-pub adopted-tree : (nodes : List Node) (p : ℕ) (segs : List Seg) (xs : List ℤ) → 0 < length xs
+pub adopted-tree : (nodes : Places) (p : ℕ) (segs : List Seg) (xs : List ℤ) → 0 < length xs
     → Holds nodes p (plan 0 (length xs)) (rebuilt (plan 0 (length xs)) segs xs) → HaveTree segs xs
     → IsLinked nodes p (plan 0 (length xs)) × IsTreeOver (length xs) (tree_at nodes p (plan 0 (length xs)))
 adopted-tree nodes p segs xs some holds h =
     (holds.linked, over_some (length xs) _ h.0 (adopted-value nodes p segs xs h.0 some holds h.1) h.1.over)
 
-series_of : (nodes : List Node) (root : Option ℕ) (n : ℕ) → IsTreeAt nodes root n → IsSeriesTree (length (all_readings (value_at nodes root n))) (value_at nodes root n)
+series_of : (nodes : Places) (root : Option ℕ) (n : ℕ) → IsTreeAt nodes root n → IsSeriesTree (length (all_readings (value_at nodes root n))) (value_at nodes root n)
 series_of nodes None n h = refl
 series_of nodes (Some p) n h = subst (λ k. IsTreeOver k (tree_at nodes p (plan 0 n))) (sym h.1.long) h.1
 
 -- the segments and the readings of a tree of an arena have a tree
-pub told_tree : (nodes : List Node) (t : Tree) → IsTreeOf nodes t → HaveTree (all_segs (value_of nodes t)) (all_readings (value_of nodes t))
+pub told_tree : (nodes : Places) (t : Tree) → IsTreeOf nodes t → HaveTree (all_segs (value_of nodes t)) (all_readings (value_of nodes t))
 told_tree nodes t h = (value_of nodes t, record { over = series_of nodes t.root t.n h; segments = refl; readings = refl })

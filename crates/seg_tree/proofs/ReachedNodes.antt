@@ -15,7 +15,7 @@ use Rattle.segment.proofs.SanityLaws.{magnitude-le, spread-part}
 use Rattle.segment.proofs.ShapeLaws.{plan-fork, split_exists}
 use Rattle.seg_tree.specs.declared.nodes.Node.{Node}
 use Rattle.seg_tree.specs.declared.arena.Tree.{Tree}
-use Rattle.seg_tree.specs.Linked.{node_at, tree_at, kept, left_child, right_child, IsFork, IsLeaf}
+use Rattle.seg_tree.specs.Linked.{Places, IsUsed, node_at, tree_at, kept, left_child, right_child, IsFork, IsLeaf}
 use Rattle.seg_tree.specs.Reached.{Reached, forest_of, len_of, lengths_of, roots_of, Means, Stands}
 use Rattle.seg_tree.specs.ReachedLaws.{has_tree, root_of-tree_at, stands_over}
 use Rattle.seg_tree.specs.Trees.{IsTreeAt, IsTreeOf, value_at, value_of}
@@ -45,7 +45,7 @@ node_is s id p h =
       found = λ forest means. rw (means.same, h.found) (over.found ∙ ap Some top);
     }
 
-pub stands-within : (s : Reached) (id : ℕ) (p : Place) → Stands s id p → id < length s.nodes
+pub stands-within : (s : Reached) (id : ℕ) (p : Place) → Stands s id p → IsUsed s.nodes id
 stands-within s id p h = IsLinked-within s.nodes id (plan p.range.start p.range.len) h.at.linked
 
 -- the children's places stand for the children
@@ -70,11 +70,11 @@ children_stand s id p k h split =
     }
 
 -- a node of more than 16 readings has children
-pub record IsForkNode (nodes : List Node) (id : ℕ) : Type 0 where
-  pub within : id < length nodes
+pub record IsForkNode (nodes : Places) (id : ℕ) : Type 0 where
+  pub within : IsUsed nodes id
   pub forks : IsFork (node_at nodes id).below
-  pub left : left_child (node_at nodes id).below < length nodes
-  pub right : right_child (node_at nodes id).below < length nodes
+  pub left : IsUsed nodes (left_child (node_at nodes id).below)
+  pub right : IsUsed nodes (right_child (node_at nodes id).below)
 
 pub fork_node : (s : Reached) (id : ℕ) (p : Place) → Stands s id p → 16 < p.range.len → IsForkNode s.nodes id
 fork_node s id p h many =
@@ -88,13 +88,13 @@ fork_node s id p h many =
     }
 
 -- the children that were read of a node
-pub left_is : (s : Reached) (nodes : List Node) (id left : ℕ) (g : Seg) (p : Place) (k : ℕ) → nodes ≡ s.nodes
+pub left_is : (s : Reached) (nodes : Places) (id left : ℕ) (g : Seg) (p : Place) (k : ℕ) → nodes ≡ s.nodes
     → left ≡ left_child (node_at nodes id).below → g ≡ (node_at nodes (left_child (node_at nodes id).below)).seg
     → Stands s id p → IsSplit p.range.len k → IsNodeAt s left g (left_of p k)
 left_is s nodes id left g p k same at seg h split =
     rw (at, seg, same) (node_is s (left_child (node_at s.nodes id).below) (left_of p k) (children_stand s id p k h split).left)
 
-pub right_is : (s : Reached) (nodes : List Node) (id right : ℕ) (g : Seg) (p : Place) (k : ℕ) → nodes ≡ s.nodes
+pub right_is : (s : Reached) (nodes : Places) (id right : ℕ) (g : Seg) (p : Place) (k : ℕ) → nodes ≡ s.nodes
     → right ≡ right_child (node_at nodes id).below → g ≡ (node_at nodes (right_child (node_at nodes id).below)).seg
     → Stands s id p → IsSplit p.range.len k → IsNodeAt s right g (right_of p k)
 right_is s nodes id right g p k same at seg h split =
@@ -170,7 +170,7 @@ root_known : (s : Reached) (k place : ℕ) → (h : Stands s place (root_place k
 root_known s k place h e =
     (has_tree s k h.tree h.trees h.found).rooted ∙ ap Some (ap root_of e ∙ root_of-tree_at s.nodes place (plan 0 (get_or (lengths_of s) k 0)))
 
-pub root_is : (s : Reached) (nodes : List Node) (trees : List Tree) (k : ℕ) (o : Option (ℕ × Seg)) → nodes ≡ s.nodes → trees ≡ s.trees → All (IsTreeOf s.nodes) s.trees → k < length s.trees
+pub root_is : (s : Reached) (nodes : Places) (trees : List Tree) (k : ℕ) (o : Option (ℕ × Seg)) → nodes ≡ s.nodes → trees ≡ s.trees → All (IsTreeOf s.nodes) s.trees → k < length s.trees
     → IfSome o (λ r. (get_or trees k no_tree).root ≡ Some r.0) → IfSome o (λ r. r.1 ≡ (node_at nodes r.0).seg) → IfSome o (IsRootAt s k)
 root_is s nodes trees k None same_nodes same_trees all lt place seg = tt
 root_is s nodes trees k (Some r) same_nodes same_trees all lt place seg =
@@ -182,7 +182,7 @@ root_is s nodes trees k (Some r) same_nodes same_trees all lt place seg =
       known = root_known s k r.0 stands.0 stands.1 ∙ ap Some (sym own);
     }
 
-none-iff : (nodes : List Node) (root : Option ℕ) (n : ℕ) → IsTreeAt nodes root n → (root ≡ None → n ≡ 0) × (n ≡ 0 → root ≡ None)
+none-iff : (nodes : Places) (root : Option ℕ) (n : ℕ) → IsTreeAt nodes root n → (root ≡ None → n ≡ 0) × (n ≡ 0 → root ≡ None)
 none-iff nodes None n h = (λ e. h, λ e. refl)
 none-iff nodes (Some p) n h = (λ e. cc, λ e. absurd (omega (arith, h.1.some)))
 
@@ -198,9 +198,9 @@ pub for_some : {A : Type 0} (P Q : A → Type 0) (o : Option A) → ((x : A) →
 for_some P Q None f h = tt
 for_some P Q (Some x) f h = f x h
 
-tree_at-within : (nodes : List Node) (root : Option ℕ) (n place : ℕ) → IsTreeAt nodes root n → root ≡ Some place → place < length nodes
+tree_at-within : (nodes : Places) (root : Option ℕ) (n place : ℕ) → IsTreeAt nodes root n → root ≡ Some place → IsUsed nodes place
 tree_at-within nodes None n place h e = cc
-tree_at-within nodes (Some p) n place h e = let same : p ≡ place = cc in subst (λ q. q < length nodes) same (IsLinked-within nodes p (plan 0 n) h.0)
+tree_at-within nodes (Some p) n place h e = let same : p ≡ place = cc in subst (IsUsed nodes) same (IsLinked-within nodes p (plan 0 n) h.0)
 
-pub root-within : (nodes : List Node) (t : Tree) (place : ℕ) → IsTreeOf nodes t → t.root ≡ Some place → place < length nodes
+pub root-within : (nodes : Places) (t : Tree) (place : ℕ) → IsTreeOf nodes t → t.root ≡ Some place → IsUsed nodes place
 root-within nodes t place h e = tree_at-within nodes t.root t.n place h e

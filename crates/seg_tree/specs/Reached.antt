@@ -8,12 +8,12 @@ use Rattle.segment.specs.Shape.{Range, plan}
 use Rattle.segment.specs.Tree.{SegTree, IsPartOf, plan_of, root_of}
 use Rattle.seg_tree.specs.declared.nodes.Node.{Node}
 use Rattle.seg_tree.specs.declared.arena.Tree.{Tree}
-use Rattle.seg_tree.specs.Linked.{IsLinked, tree_at}
+use Rattle.seg_tree.specs.Linked.{Places, IsLinked, tree_at}
 use Rattle.seg_tree.specs.Trees.{IsTreeOf, value_of}
 
 -- the nodes of an arena, and the trees of the series
 pub record Reached : Type 0 where
-  pub nodes : List Node
+  pub nodes : Places
   pub trees : List Tree
 
 abbrev pub forest_of : Reached → Forest
@@ -35,7 +35,7 @@ pub record Means (s : Reached) (forest : Forest) : Type 0 where
   pub same : forest ≡ forest_of s
 
 -- a place of the arena has the node of a range of the tree
-pub record StandsIn (nodes : List Node) (t : SegTree) (id : ℕ) (r : Range) : Type 0 where
+pub record StandsIn (nodes : Places) (t : SegTree) (id : ℕ) (r : Range) : Type 0 where
   pub linked : IsLinked nodes id (plan r.start r.len)
   pub shaped : plan_of (tree_at nodes id (plan r.start r.len)) ≡ plan r.start r.len
   pub part : IsPartOf (tree_at nodes id (plan r.start r.len)) t

@@ -11,15 +11,15 @@ use Rattle.segment.specs.Tree.{SegTree, root_of, IsTreeOver}
 use Rattle.segment.proofs.PartLaws.{IsPartOver, part-over}
 use Rattle.seg_tree.specs.declared.nodes.Node.{Node}
 use Rattle.seg_tree.specs.declared.arena.Tree.{Tree}
-use Rattle.seg_tree.specs.Linked.{node_at, tree_at}
+use Rattle.seg_tree.specs.Linked.{Places, node_at, tree_at}
 use Rattle.seg_tree.specs.Reached.{Reached, forest_of, len_of, lengths_of, roots_of, Means, Stands}
 use Rattle.seg_tree.specs.Trees.{IsTreeAt, IsTreeOf, value_at, value_of}
 
-series_at : (nodes : List Node) (root : Option ℕ) (n : ℕ) → IsTreeAt nodes root n → IsSeriesTree n (value_at nodes root n)
+series_at : (nodes : Places) (root : Option ℕ) (n : ℕ) → IsTreeAt nodes root n → IsSeriesTree n (value_at nodes root n)
 series_at nodes None n h = h
 series_at nodes (Some p) n h = h.1
 
-forest-fits : (nodes : List Node) (trees : List Tree) → All (IsTreeOf nodes) trees → IsForest (map len_of trees) (map (value_of nodes) trees)
+forest-fits : (nodes : Places) (trees : List Tree) → All (IsTreeOf nodes) trees → IsForest (map len_of trees) (map (value_of nodes) trees)
 forest-fits nodes [] all = tt
 forest-fits nodes (t ∷ ts) all = (series_at nodes t.root t.n (All-head (IsTreeOf nodes) t ts all), forest-fits nodes ts (All-tail (IsTreeOf nodes) t ts all))
 
@@ -36,7 +36,7 @@ tree-over : (n : ℕ) (o : Option SegTree) (t : SegTree) → IsSeriesTree n o �
 tree-over n None t h e = cc
 tree-over n (Some u) t h e = let same : u ≡ t = cc in subst (IsTreeOver n) same h
 
-tree-found : (nodes : List Node) (trees : List Tree) (k : ℕ) (t : SegTree) → All (IsTreeOf nodes) trees → tree_in (map (value_of nodes) trees) k ≡ Some t → (k < length trees) × IsTreeOver (get_or (map len_of trees) k 0) t
+tree-found : (nodes : Places) (trees : List Tree) (k : ℕ) (t : SegTree) → All (IsTreeOf nodes) trees → tree_in (map (value_of nodes) trees) k ≡ Some t → (k < length trees) × IsTreeOver (get_or (map len_of trees) k 0) t
 tree-found nodes [] k t all e = cc
 tree-found nodes (x ∷ xs) zero t all e = (omega arith, tree-over x.n (value_of nodes x) t (series_at nodes x.root x.n (All-head (IsTreeOf nodes) x xs all)) e)
 tree-found nodes (x ∷ xs) (suc k) t all e = let rest = tree-found nodes xs k t (All-tail (IsTreeOf nodes) x xs all) e in (omega (arith, rest.0), rest.1)
@@ -50,7 +50,7 @@ has_tree s k t all e =
       rooted = get_or-map (option_map root_of) (forest_of s) k None ∙ ap (option_map root_of) e;
     }
 
-pub root_of-tree_at : (nodes : List Node) (id : ℕ) (p : Plan) → root_of (tree_at nodes id p) ≡ (node_at nodes id).seg
+pub root_of-tree_at : (nodes : Places) (id : ℕ) (p : Plan) → root_of (tree_at nodes id p) ≡ (node_at nodes id).seg
 root_of-tree_at nodes id (leaf s n) = refl
 root_of-tree_at nodes id (fork s n l r) = refl
 

@@ -1,10 +1,10 @@
-ghost use Rattle.std.specs.Prelude.{◌≡◌, ◌≤◌, ◌<◌, ◌↔◌, length, map, IsNone, IfSome};
+ghost use Rattle.std.specs.Prelude.{◌≡◌, ◌≤◌, ◌↔◌, length, map, IsNone, IfSome};
 ghost use Rattle.std.specs.List.{All};
-ghost use Rattle.seg_tree.specs.Linked.{node_at, IsFork, IsLeaf, kept, left_child, right_child};
+ghost use Rattle.seg_tree.specs.Linked.{IsUsed, node_at, IsFork, IsLeaf, kept, left_child, right_child};
 ghost use Rattle.seg_tree.specs.Trees.{IsTreeOf, value_of};
 
-use crate::nodes::children;
-use crate::{Arena, Below, Node, Tree};
+use crate::places::Places;
+use crate::{Arena, Below, Tree};
 use segment::{Children, NodeErr, Nodes, Seg};
 use std::marker::Model;
 
@@ -102,36 +102,36 @@ impl<'a> Nodes for ArenaNodes<'a> {
 }
 
 /// The segment of the node at a place.
-fn seg_of(nodes: &[Node], place: u32) -> Seg
-    requires { place < length nodes.now }
-    ensures { result ≡ (node_at nodes.now place).seg }
+fn seg_of(nodes: &Places, place: u32) -> Seg
+    requires { IsUsed nodes.now.nodes place }
+    ensures { result ≡ (node_at nodes.now.nodes place).seg }
 {
-    nodes[place as usize].seg
+    nodes.node(place).seg
 }
 
 /// The root of a tree, where it has readings.
-fn root_of(nodes: &[Node], tree: Tree) -> Option<(u32, Seg)>
-    requires { IsTreeOf nodes.now tree }
+fn root_of(nodes: &Places, tree: Tree) -> Option<(u32, Seg)>
+    requires { IsTreeOf nodes.now.nodes tree }
     ensures none { IsNone result ↔ (tree.root ≡ None) }
     ensures place { IfSome result (λ r. tree.root ≡ Some r.0) }
-    ensures seg { IfSome result (λ r. r.1 ≡ (node_at nodes.now r.0).seg) }
+    ensures seg { IfSome result (λ r. r.1 ≡ (node_at nodes.now.nodes r.0).seg) }
 {
     let place = tree.root?;
     Some((place, seg_of(nodes, place)))
 }
 
 /// The children of the fork at a place.
-fn children_of(nodes: &[Node], place: u32) -> Children<u32>
-    requires within { place < length nodes.now }
-    requires fork { IsFork (node_at nodes.now place).below }
-    requires left_within { left_child (node_at nodes.now place).below < length nodes.now }
-    requires right_within { right_child (node_at nodes.now place).below < length nodes.now }
-    ensures left { result.left ≡ left_child (node_at nodes.now place).below }
-    ensures left_seg { result.left_seg ≡ (node_at nodes.now (left_child (node_at nodes.now place).below)).seg }
-    ensures right { result.right ≡ right_child (node_at nodes.now place).below }
-    ensures right_seg { result.right_seg ≡ (node_at nodes.now (right_child (node_at nodes.now place).below)).seg }
+fn children_of(nodes: &Places, place: u32) -> Children<u32>
+    requires within { IsUsed nodes.now.nodes place }
+    requires fork { IsFork (node_at nodes.now.nodes place).below }
+    requires left_within { IsUsed nodes.now.nodes (left_child (node_at nodes.now.nodes place).below) }
+    requires right_within { IsUsed nodes.now.nodes (right_child (node_at nodes.now.nodes place).below) }
+    ensures left { result.left ≡ left_child (node_at nodes.now.nodes place).below }
+    ensures left_seg { result.left_seg ≡ (node_at nodes.now.nodes (left_child (node_at nodes.now.nodes place).below)).seg }
+    ensures right { result.right ≡ right_child (node_at nodes.now.nodes place).below }
+    ensures right_seg { result.right_seg ≡ (node_at nodes.now.nodes (right_child (node_at nodes.now.nodes place).below)).seg }
 {
-    let (left, right) = children(nodes, place);
+    let (left, right) = nodes.node(place).below.children();
     Children {
         left,
         left_seg: seg_of(nodes, left),
@@ -141,13 +141,13 @@ fn children_of(nodes: &[Node], place: u32) -> Children<u32>
 }
 
 /// Puts the readings of the leaf at a place into `into`, and answers how many it has.
-fn leaf_of(nodes: &[Node], place: u32, into: &mut [i32; 16]) -> u32
-    requires within { place < length nodes.now }
-    requires leaf { IsLeaf (node_at nodes.now place).seg.len (node_at nodes.now place).below }
-    ensures readings { into.new ≡ kept (node_at nodes.now place).below }
-    ensures len { result ≡ (node_at nodes.now place).seg.len }
+fn leaf_of(nodes: &Places, place: u32, into: &mut [i32; 16]) -> u32
+    requires within { IsUsed nodes.now.nodes place }
+    requires leaf { IsLeaf (node_at nodes.now.nodes place).seg.len (node_at nodes.now.nodes place).below }
+    ensures readings { into.new ≡ kept (node_at nodes.now.nodes place).below }
+    ensures len { result ≡ (node_at nodes.now.nodes place).seg.len }
 {
-    let node = nodes[place as usize];
+    let node = nodes.node(place);
     match node.below {
         Below::Readings(xs) => {
             *into = xs;

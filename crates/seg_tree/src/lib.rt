@@ -5,9 +5,12 @@ mod adopting;
 mod arena;
 mod arena_nodes;
 mod building;
+mod growing;
 mod laws;
 mod nodes;
+mod places;
 mod reading;
+mod sweeping;
 #[cfg(test)]
 mod tests;
 

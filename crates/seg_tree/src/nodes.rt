@@ -1,9 +1,7 @@
-ghost use Rattle.std.specs.Prelude.{◌≡◌, ◌+◌, ◌^◌, ◌<◌, ◌≤◌, length, take, [], ◌∷◌, ◌++◌, IfOk, OnErr};
+ghost use Rattle.std.specs.Prelude.{◌≡◌, ◌^◌, ◌≤◌, length, take};
 ghost use Rattle.segment.specs.Shape.{node_count};
-ghost use Rattle.seg_tree.specs.Linked.{node_at, IsFork, left_child, right_child};
 
 use segment::Seg;
-use std::alloc::AllocError;
 
 /// A node of a tree: its segment, and what is below it.
 #[derive(Clone, Copy, Drop)]
@@ -47,27 +45,6 @@ impl Below {
             Below::Readings(_) => unreachable!(),
         }
     }
-}
-
-/// Adds a node, and answers its place.
-pub(crate) fn push(nodes: &mut Vec<Node>, node: Node) -> Result<u32, AllocError>
-    requires { length nodes.old.items < 2 ^ 32 }
-    ensures ok { IfOk result (λ p. (p ≡ length nodes.old.items) × (nodes.new.items ≡ nodes.old.items ++ node ∷ [])) }
-    ensures err { OnErr result (nodes.new.items ≡ nodes.old.items) }
-{
-    let place = nodes.len() as u32;
-    nodes.push(node)?;
-    Ok(place)
-}
-
-/// The places of a fork's children.
-pub(crate) fn children(nodes: &[Node], place: u32) -> (u32, u32)
-    requires within { place < length nodes.now }
-    requires fork { IsFork (node_at nodes.now place).below }
-    ensures left { result.0 ≡ left_child (node_at nodes.now place).below }
-    ensures right { result.1 ≡ right_child (node_at nodes.now place).below }
-{
-    nodes[place as usize].below.children()
 }
 
 /// A leaf's readings, with 0 behind them.

@@ -120,3 +120,35 @@ fn adopts_a_built_tree(rt: HostRuntime) -> Result<(), TreeErr> {
     assert_eq!(rt; read.as_slice(), READINGS.as_slice());
     Ok(())
 }
+
+#[test]
+fn appends_and_sweeps(rt: HostRuntime) -> Result<(), TreeErr> {
+    assert!(rt; are_readings(&READINGS[..32]));
+    assert!(rt; are_readings(&[5]));
+    assert!(rt; are_readings(&[0]));
+    let mut arena = Arena::new(rt.alloc(), 0, 7);
+    let first = arena.build(&READINGS[..32])?;
+    assert_eq!(rt; arena.used(), 3);
+
+    let second = arena.append(first, &[5])?;
+    assert_eq!(rt; (second.n, arena.used()), (33, 5));
+    arena.sweep(&[second]);
+    assert_eq!(rt; arena.used(), 5);
+
+    let third = arena.append(second, &[0])?;
+    assert_eq!(rt; (third.n, arena.used()), (34, 7));
+    assert_eq!(rt; arena.append(third, &[0]), Err(TreeErr::ArenaFull));
+
+    arena.sweep(&[third]);
+    assert_eq!(rt; arena.used(), 5);
+    let fourth = arena.append(third, &[0])?;
+    assert_eq!(rt; (fourth.n, arena.used()), (35, 7));
+    let Ok(xs) = arena.readings_of(fourth) else {
+        return Err(TreeErr::Memory)
+    };
+    assert_eq!(rt; &xs[..32], &READINGS[..32]);
+    assert_eq!(rt; &xs[32..], &[5, 0, 0][..]);
+    arena.sweep(&[]);
+    assert_eq!(rt; arena.used(), 0);
+    Ok(())
+}

@@ -1,6 +1,7 @@
 pub mod AlignedRanges
 pub mod Bounds
 pub mod FitLaws
+pub mod GrowthLaws
 pub mod PartLaws
 pub mod ReadingLaws
 pub mod SanityLaws

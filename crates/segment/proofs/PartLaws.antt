@@ -282,3 +282,25 @@ part-over n t part r over is_part shaped =
       sane = subst (IsSane (root_of part)) (sym most) (true-sane (readings_of t) r.start r.len (root_of part) over.small (subst (λ ys. IsTrueOf ys (root_of part)) (sym readings) part_true));
       shaped = subst (λ q. Contains (shape n) q) same (subst (λ rs. Contains rs (range_of part)) (ap ranges over.shaped ∙ sym (shape-plan n over.some)) (Contains-part t part is_part));
     }
+
+-- no segment of a tree has a range that ends behind it
+find-beyond : (start : ℕ) (t : SegTree) (r : Range) → IsLaid start t → start + length (readings_of t) < r.start + r.len → find_seg (segs_of t) r ≡ None
+find-beyond start (tip g xs) r h behind = find-rest g [] r (λ a b. omega (arith, h.0, h.1))
+find-beyond start (node g left right) r h behind =
+    let long = length-append (readings_of left) (readings_of right) in
+    find-rest g (segs_of left ++ segs_of right) r (λ a b. omega (arith, h.0, h.1))
+    ∙ find-past (segs_of left) (segs_of right) r (find-beyond start left r h.2 (omega arith))
+    ∙ find-beyond (start + length (readings_of left)) right r h.3 (omega arith)
+
+pub beyond-none : (n : ℕ) (t : SegTree) (r : Range) → IsTreeOver n t → n < r.start + r.len → find_seg (segs_of t) r ≡ None
+beyond-none n t r over behind = find-beyond 0 t r (laid n t over) (omega (arith, over.long))
+
+-- the segment of a part's range is the part's
+pub part-found : (n : ℕ) (t part : SegTree) → IsTreeOver n t → IsPartOf part t → find_seg (segs_of t) (range_of part) ≡ Some (root_of part)
+part-found n t part over is_part = (part-lies 0 t part (laid n t over) is_part).found
+
+-- the readings of a part are those of its range
+pub part-readings : (n : ℕ) (t part : SegTree) → IsTreeOver n t → IsPartOf part t → take (root_of part).len (drop (root_of part).start (readings_of t)) ≡ readings_of part
+part-readings n t part over is_part =
+    let lies = part-lies 0 t part (laid n t over) is_part in
+    ap₂ (λ l s. take l (drop s (readings_of t))) lies.spans (let e : (root_of part).start ≡ (root_of part).start - 0 = omega arith in e) ∙ lies.readings

@@ -35,10 +35,10 @@ fits-high degree h start len ys high =
     ap (λ p. fits degree p ys) (plan_below_high h start len high)
     ∙ ap (λ w. node (fit_of degree start ys) (fits degree left (take w ys)) (fits degree right (drop w ys))) (width-below h start (room h))
 
-left_readings : (xs : List ℤ) (start len s : ℕ) → s ≤ len → take s (take len (drop start xs)) ≡ take s (drop start xs)
+pub left_readings : (xs : List ℤ) (start len s : ℕ) → s ≤ len → take s (take len (drop start xs)) ≡ take s (drop start xs)
 left_readings xs start len s le = take-take s len (drop start xs) le
 
-right_readings : (xs : List ℤ) (start len s : ℕ) → s ≤ len → drop s (take len (drop start xs)) ≡ take (len - s) (drop (start + s) xs)
+pub right_readings : (xs : List ℤ) (start len s : ℕ) → s ≤ len → drop s (take len (drop start xs)) ≡ take (len - s) (drop (start + s) xs)
 right_readings xs start len s le =
     let e : len ≡ s + (len - s) = omega arith in
     ap (λ n. drop s (take n (drop start xs))) e ∙ drop-take s (len - s) (drop start xs) ∙ ap (take (len - s)) (drop-drop s start xs)

@@ -1,4 +1,5 @@
 pub mod Fit
+pub mod Growth
 pub mod Measure
 pub mod Nodes
 pub mod Shape

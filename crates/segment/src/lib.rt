@@ -3,6 +3,7 @@
 
 mod curves;
 mod fitting;
+mod growth;
 mod measures;
 mod node_access;
 mod sanity;
@@ -13,6 +14,7 @@ mod tests;
 
 pub use curves::Curve;
 pub use fitting::fit;
+pub use growth::few_nodes_are_made;
 pub use measures::{measure, unit};
 pub use node_access::{Children, NodeErr, Nodes};
 pub use sanity::{every_true_segment_is_sane, is_sane};

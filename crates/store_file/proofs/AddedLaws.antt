@@ -13,9 +13,8 @@ use Rattle.segment.specs.Shape.{node_count}
 use Rattle.segment.specs.Tree.{SegTree, fitted_series}
 use Rattle.segment.proofs.TreeLaws.{fitted-is, all_readings-fitted_series}
 use Rattle.seg_tree.specs.Held.{Held}
-use Rattle.seg_tree.specs.Linked.{Extends}
+use Rattle.seg_tree.specs.Linked.{Places, Extends, used}
 use Rattle.seg_tree.specs.Trees.{IsTreeOf, value_of}
-use Rattle.seg_tree.specs.declared.nodes.Node.{Node}
 use Rattle.seg_tree.specs.declared.arena.Tree.{Tree}
 use Rattle.seg_tree.specs.declared.arena.TreeErr.{TreeErr}
 use Rattle.seg_tree.specs.declared.arena.TreeErr.TheVariants as tree
@@ -128,21 +127,21 @@ add_refusal-readings s name xs h = ap (λ o. first_refusal o (readings_refusal s
 -- what an arena's answer says of a store's refusal
 pub record BuildRefuses (s : StoreParts) (xs : List ℤ) (e : TreeErr) : Type 0 where
   pub too_long : (◌≡◌ {A = Result Tree TreeErr} (Err e) (Err tree.TooLong)) ↔ (2 ^ 20 < length xs)
-  pub full : (◌≡◌ {A = Result Tree TreeErr} (Err e) (Err tree.ArenaFull)) ↔ ((length xs ≤ 2 ^ 20) × (s.arena.limit < length s.arena.nodes + node_count (length xs)))
+  pub full : (◌≡◌ {A = Result Tree TreeErr} (Err e) (Err tree.ArenaFull)) ↔ ((length xs ≤ 2 ^ 20) × (s.arena.limit < used s.arena.nodes + node_count (length xs)))
 
 readings_refusal-built : (s : StoreParts) (xs : List ℤ) (e : TreeErr) → BuildRefuses s xs e → (series_err_of e ≡ refusal.Memory) ⊎ (readings_refusal s xs ≡ Some (series_err_of e))
 readings_refusal-built s xs tree.TooLong h = inr (rw (is_above (length xs) (2 ^ 20) (h.too_long.0 refl)) refl)
 readings_refusal-built s xs tree.ArenaFull h =
     let (short, over) = h.full.0 refl in
-    inr (rw (isnt_above (length xs) (2 ^ 20) short, is_above (length s.arena.nodes + node_count (length xs)) s.arena.limit over) refl)
+    inr (rw (isnt_above (length xs) (2 ^ 20) short, is_above (used s.arena.nodes + node_count (length xs)) s.arena.limit over) refl)
 readings_refusal-built s xs tree.Memory h = inl refl
 
 pub add_refusal-built : (s : StoreParts) (name : List ℕ) (xs : List ℤ) (e : TreeErr) → None ≡ name_refusal (store_value s) name → BuildRefuses s xs e
     → (series_err_of e ≡ refusal.Memory) ⊎ (add_refusal s name xs ≡ Some (series_err_of e))
 add_refusal-built s name xs e new h = rw (add_refusal-readings s name xs new) (readings_refusal-built s xs e h)
 
-pub readings_refusal-none : (s : StoreParts) (xs : List ℤ) → length xs ≤ 2 ^ 20 → length s.arena.nodes + node_count (length xs) ≤ s.arena.limit → readings_refusal s xs ≡ None
-readings_refusal-none s xs short room = rw (isnt_above (length xs) (2 ^ 20) short, isnt_above (length s.arena.nodes + node_count (length xs)) s.arena.limit room) refl
+pub readings_refusal-none : (s : StoreParts) (xs : List ℤ) → length xs ≤ 2 ^ 20 → used s.arena.nodes + node_count (length xs) ≤ s.arena.limit → readings_refusal s xs ≡ None
+readings_refusal-none s xs short room = rw (isnt_above (length xs) (2 ^ 20) short, isnt_above (used s.arena.nodes + node_count (length xs)) s.arena.limit room) refl
 
 nodes_few : (n : ℕ) → n ≤ 2 ^ 20 → node_count n ≤ 2 ^ 17
 nodes_few n h = omega arith
@@ -158,12 +157,12 @@ room-is-enough s name xs room short =
 
 -- ---- what is stored
 
-pub AreOf-push : (old new : List Node) (es : List (List ℕ × Stored)) (name : List ℕ) (t : Tree) → Extends old new → AreOf old es → IsTreeOf new t
+pub AreOf-push : (old new : Places) (es : List (List ℕ × Stored)) (name : List ℕ) (t : Tree) → Extends old new → AreOf old es → IsTreeOf new t
     → AreOf new (es ++ (name, record { tree = t }) ∷ [])
 AreOf-push old new [] name t ext are is = (is, tt)
 AreOf-push old new (e ∷ es) name t ext are is = (IsTreeOf-Extends old new e.1.tree ext are.0, AreOf-push old new es name t ext are.1 is)
 
-pub series_of-push : (old new : List Node) (es : List (List ℕ × Stored)) (name : List ℕ) (t : Tree) → Extends old new → AreOf old es
+pub series_of-push : (old new : Places) (es : List (List ℕ × Stored)) (name : List ℕ) (t : Tree) → Extends old new → AreOf old es
     → series_of new (es ++ (name, record { tree = t }) ∷ []) ≡ series_of old es ++ record { name = name; tree = value_of new t } ∷ []
 series_of-push old new [] name t ext are = refl
 series_of-push old new (e ∷ es) name t ext are =

@@ -15,10 +15,9 @@ use Rattle.segment.specs.Tree.{SegTree, tip, node, all_readings, IsTreeOver, rea
 use Rattle.segment.proofs.Bounds.{spread-le}
 use Rattle.segment.proofs.PartLaws.{root-true, start-plan, span-plan}
 use Rattle.segment.proofs.ReadingLaws.{AreReadings-nil}
-use Rattle.seg_tree.specs.Linked.{tree_at}
+use Rattle.seg_tree.specs.Linked.{Places, tree_at}
 use Rattle.seg_tree.specs.Reached.{Reached, len_of, lengths_of}
 use Rattle.seg_tree.specs.Trees.{IsTreeAt, IsTreeOf, value_at, value_of}
-use Rattle.seg_tree.specs.declared.nodes.Node.{Node}
 use Rattle.seg_tree.specs.declared.arena.Tree.{Tree}
 use Rattle.store_file.specs.Facts.{AreFacts, IsSmallFact, StoresHaveFacts, fact_in, fact_name, facts_in}
 use Rattle.store_file.specs.StoreValue.{EachTree, Series, count_of, name_of}
@@ -76,7 +75,7 @@ greatest-root n t g over found =
     let same : root_of t ≡ g = cc in
     sym (ap (λ (s : Seg). s.d) same) ∙ ap (λ (s : Seg). s.d) (root-true t over.all_true).measured
 
-pub greatest-some : (nodes : List Node) (t : Tree) (g : Seg) → IsTreeOf nodes t → seg_at (value_of nodes t ∷ []) (root_place 0 t.n) ≡ Some g → g.d ≡ spread (all_readings (value_of nodes t))
+pub greatest-some : (nodes : Places) (t : Tree) (g : Seg) → IsTreeOf nodes t → seg_at (value_of nodes t ∷ []) (root_place 0 t.n) ≡ Some g → g.d ≡ spread (all_readings (value_of nodes t))
 greatest-some nodes t g is found = by t.root t.n is found
   where
     by : (root : Option ℕ) (n : ℕ) → IsTreeAt nodes root n → seg_at (value_at nodes root n ∷ []) (root_place 0 n) ≡ Some g → g.d ≡ spread (all_readings (value_at nodes root n))
@@ -87,7 +86,7 @@ spread-nil : spread [] ≡ 0
 unfolding spread
 spread-nil = refl
 
-pub greatest-none : (nodes : List Node) (t : Tree) → IsTreeOf nodes t → t.n ≡ 0 → 0 ≡ spread (all_readings (value_of nodes t))
+pub greatest-none : (nodes : Places) (t : Tree) → IsTreeOf nodes t → t.n ≡ 0 → 0 ≡ spread (all_readings (value_of nodes t))
 greatest-none nodes t is none = by t.root t.n is none
   where
     by : (root : Option ℕ) (n : ℕ) → IsTreeAt nodes root n → n ≡ 0 → 0 ≡ spread (all_readings (value_at nodes root n))
@@ -101,7 +100,7 @@ one-length s t is = ap (λ ts. slice_index (map len_of ts) 0) is
 -- ---- the loop over the entries
 
 -- the facts that are told, and those of the entries that are left
-pub record FactsLeft (nodes : List Node) (es : List (List ℕ × Stored)) (facts : List Fact) (whole : List admission.Fact) : Type 0 where
+pub record FactsLeft (nodes : Places) (es : List (List ℕ × Stored)) (facts : List Fact) (whole : List admission.Fact) : Type 0 where
   pub rest : facts_of facts ++ map fact_in (series_of nodes es) ≡ whole
   pub are : AreOf nodes es
 
@@ -109,21 +108,21 @@ facts_of-push : (facts : List Fact) (f : Fact) → facts_of (facts ++ f ∷ []) 
 facts_of-push [] f = refl
 facts_of-push (x ∷ facts) f = ap (λ q. fact_of x ∷ q) (facts_of-push facts f)
 
-pub record IsFactOf (nodes : List Node) (e : List ℕ × Stored) (f : Fact) : Type 0 where
+pub record IsFactOf (nodes : Places) (e : List ℕ × Stored) (f : Fact) : Type 0 where
   pub name : f.name ≡ e.0
   pub count : f.n ≡ e.1.tree.n
   pub greatest : f.d ≡ spread (all_readings (value_of nodes e.1.tree))
 
-fact-entry : (nodes : List Node) (e : List ℕ × Stored) (f : Fact) → IsTreeOf nodes e.1.tree → IsFactOf nodes e f → fact_of f ≡ fact_in (record { name = e.0; tree = value_of nodes e.1.tree })
+fact-entry : (nodes : Places) (e : List ℕ × Stored) (f : Fact) → IsTreeOf nodes e.1.tree → IsFactOf nodes e f → fact_of f ≡ fact_in (record { name = e.0; tree = value_of nodes e.1.tree })
 fact-entry nodes e f is fact =
     let count : f.n ≡ length (all_readings (value_of nodes e.1.tree)) = fact.count ∙ sym (count-tree nodes e.1.tree.root e.1.tree.n is) in
     rw (fact.name, count, fact.greatest) refl
 
-pub facts-first : (nodes : List Node) (i : ℕ) (es : List (List ℕ × Stored)) (e : List ℕ × Stored) (facts : List Fact) (whole : List admission.Fact)
+pub facts-first : (nodes : Places) (i : ℕ) (es : List (List ℕ × Stored)) (e : List ℕ × Stored) (facts : List Fact) (whole : List admission.Fact)
     → drop i es ≡ e ∷ drop (i + 1) es → FactsLeft nodes (drop i es) facts whole → IsTreeOf nodes e.1.tree
 facts-first nodes i es e facts whole at left = (subst (AreOf nodes) at left.are).0
 
-pub facts-step : (nodes : List Node) (i : ℕ) (es : List (List ℕ × Stored)) (e : List ℕ × Stored) (f : Fact) (before after : List Fact) (whole : List admission.Fact)
+pub facts-step : (nodes : Places) (i : ℕ) (es : List (List ℕ × Stored)) (e : List ℕ × Stored) (f : Fact) (before after : List Fact) (whole : List admission.Fact)
     → drop i es ≡ e ∷ drop (i + 1) es → FactsLeft nodes (drop i es) before whole → IsFactOf nodes e f → after ≡ before ++ f ∷ [] → FactsLeft nodes (drop (i + 1) es) after whole
 facts-step nodes i es e f before after whole at left fact put =
     let next : List admission.Fact = map fact_in (series_of nodes (drop (i + 1) es)) in
@@ -137,7 +136,7 @@ facts-step nodes i es e f before after whole at left fact put =
       are = (subst (AreOf nodes) at left.are).1;
     }
 
-pub facts-end : (nodes : List Node) (i : ℕ) (es : List (List ℕ × Stored)) (facts : List Fact) (whole : List admission.Fact) → length es ≤ i → FactsLeft nodes (drop i es) facts whole → facts_of facts ≡ whole
+pub facts-end : (nodes : Places) (i : ℕ) (es : List (List ℕ × Stored)) (facts : List Fact) (whole : List admission.Fact) → length es ≤ i → FactsLeft nodes (drop i es) facts whole → facts_of facts ≡ whole
 facts-end nodes i es facts whole past left =
     sym (append-nil (facts_of facts)) ∙ ap (λ q. facts_of facts ++ map fact_in (series_of nodes q)) (sym (drop_all i es past)) ∙ left.rest
 

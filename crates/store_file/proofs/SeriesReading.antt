@@ -8,10 +8,9 @@ use Rattle.std.specs.Option.{option_or}
 use Rattle.indexmap.specs.IndexMap.{insert_entry}
 use Rattle.semantics.specs.Names.{same_name}
 use Rattle.segment.specs.Tree.{SegTree}
-use Rattle.seg_tree.specs.Linked.{Extends}
+use Rattle.seg_tree.specs.Linked.{Places, Extends, used}
 use Rattle.seg_tree.specs.Trees.{IsTreeOf, value_of}
 use Rattle.seg_tree.specs.declared.arena.Tree.{Tree}
-use Rattle.seg_tree.specs.declared.nodes.Node.{Node}
 use Rattle.tree_file.specs.Image.{tree_size}
 use Rattle.store_file.specs.Decoded.{IsShort, names_of, trees_size, series_tree, series_in, bad_in_tree, bad_in}
 use Rattle.store_file.specs.Restored.{HoldsSeries}
@@ -43,16 +42,16 @@ names-new seen (k ∷ ks) name ns are =
     (rw (here, among) refl, seen_new)
 
 -- what is held of the series that are read, and what is left
-pub record SoFar (nodes : List Node) (stored : List (List ℕ × Stored)) (es : List Entry) (bytes : List ℕ) (i place : ℕ) : Type 0 where
+pub record SoFar (nodes : Places) (stored : List (List ℕ × Stored)) (es : List Entry) (bytes : List ℕ) (i place : ℕ) : Type 0 where
   pub trees : AreOf nodes stored
   pub series : series_of nodes stored ++ series_in (drop i es) (drop place bytes) ≡ series_in es bytes
   pub names : keys_of stored ++ names_of (drop i es) ≡ names_of es
   pub good : bad_in (series_in es bytes) ≡ bad_in (series_in (drop i es) (drop place bytes))
   pub room : place + trees_size (drop i es) ≡ length bytes
   pub short : All IsShort (drop i es)
-  pub few : length nodes ≤ i * 2 ^ 17
+  pub few : used nodes ≤ i * 2 ^ 17
 
-pub series-start : (nodes : List Node) (stored : List (List ℕ × Stored)) (es : List Entry) (bytes : List ℕ) → nodes ≡ [] → stored ≡ [] → All IsShort es → length bytes ≡ trees_size es → SoFar nodes stored es bytes 0 0
+pub series-start : (nodes : Places) (stored : List (List ℕ × Stored)) (es : List Entry) (bytes : List ℕ) → nodes ≡ [] → stored ≡ [] → All IsShort es → length bytes ≡ trees_size es → SoFar nodes stored es bytes 0 0
 series-start nodes stored es bytes no_nodes no_series short room = rw (no_nodes, no_series) (record {
   trees = tt;
   series = refl;
@@ -64,12 +63,12 @@ series-start nodes stored es bytes no_nodes no_series short room = rw (no_nodes,
 })
 
 -- what is known of the next entry
-pub record IsNext (nodes : List Node) (stored : List (List ℕ × Stored)) (e : Entry) (bytes : List ℕ) (place : ℕ) : Type 0 where
+pub record IsNext (nodes : Places) (stored : List (List ℕ × Stored)) (e : Entry) (bytes : List ℕ) (place : ℕ) : Type 0 where
   pub short : e.n ≤ 2 ^ 20
   pub room : tree_size e.n ≤ length (drop place bytes)
   pub new : has_name (keys_of stored) e.name ≡ false
 
-pub series-next : (nodes : List Node) (stored : List (List ℕ × Stored)) (es : List Entry) (bytes : List ℕ) (i place : ℕ) (e : Entry) → AreNames [] (names_of es) → drop i es ≡ e ∷ drop (i + 1) es → SoFar nodes stored es bytes i place
+pub series-next : (nodes : Places) (stored : List (List ℕ × Stored)) (es : List Entry) (bytes : List ℕ) (i place : ℕ) (e : Entry) → AreNames [] (names_of es) → drop i es ≡ e ∷ drop (i + 1) es → SoFar nodes stored es bytes i place
     → IsNext nodes stored e bytes place
 series-next nodes stored es bytes i place e names next far =
     let size = ap trees_size next in
@@ -80,15 +79,15 @@ series-next nodes stored es bytes i place e names next far =
     }
 
 -- a refusal of the next tree is the first one
-pub series-bad : (nodes : List Node) (stored : List (List ℕ × Stored)) (es : List Entry) (bytes : List ℕ) (i place : ℕ) (e : Entry) (error : StoreErr) → drop i es ≡ e ∷ drop (i + 1) es → SoFar nodes stored es bytes i place
+pub series-bad : (nodes : Places) (stored : List (List ℕ × Stored)) (es : List Entry) (bytes : List ℕ) (i place : ℕ) (e : Entry) (error : StoreErr) → drop i es ≡ e ∷ drop (i + 1) es → SoFar nodes stored es bytes i place
     → (error ≡ Memory) ⊎ (bad_in_tree e.name (series_tree e.n (drop place bytes)) ≡ Some error) → (error ≡ Memory) ⊎ (bad_in (series_in es bytes) ≡ Some error)
 series-bad nodes stored es bytes i place e error next far (inl memory) = inl memory
 series-bad nodes stored es bytes i place e error next far (inr bad) =
     inr (far.good ∙ ap (λ q. bad_in (series_in q (drop place bytes))) next ∙ ap (λ o. option_or o (bad_in (series_in (drop (i + 1) es) (drop (tree_size e.n) (drop place bytes))))) bad)
 
 -- one more series
-pub series-step : (old new : List Node) (stored grown : List (List ℕ × Stored)) (es : List Entry) (bytes : List ℕ) (i place : ℕ) (e : Entry) (t : Tree) → drop i es ≡ e ∷ drop (i + 1) es → SoFar old stored es bytes i place
-    → Extends old new → IsTreeOf new t → value_of new t ≡ series_tree e.n (drop place bytes) → bad_in_tree e.name (series_tree e.n (drop place bytes)) ≡ None → length new ≤ length old + 2 ^ 17
+pub series-step : (old new : Places) (stored grown : List (List ℕ × Stored)) (es : List Entry) (bytes : List ℕ) (i place : ℕ) (e : Entry) (t : Tree) → drop i es ≡ e ∷ drop (i + 1) es → SoFar old stored es bytes i place
+    → Extends old new → IsTreeOf new t → value_of new t ≡ series_tree e.n (drop place bytes) → bad_in_tree e.name (series_tree e.n (drop place bytes)) ≡ None → used new ≤ used old + 2 ^ 17
     → grown ≡ stored ++ (e.name, record { tree = t }) ∷ [] → SoFar new grown es bytes (i + 1) (place + tree_size e.n)
 series-step old new stored grown es bytes i place e t next far extends tree value good few put =
     let rest = drop (i + 1) es in
@@ -107,7 +106,7 @@ series-step old new stored grown es bytes i place e t next far extends tree valu
       few = omega (arith, few, far.few);
     })
 
-pub series-end : (nodes : List Node) (stored : List (List ℕ × Stored)) (es : List Entry) (bytes : List ℕ) (i place : ℕ) → length es ≤ i → SoFar nodes stored es bytes i place → HoldsSeries nodes stored es bytes
+pub series-end : (nodes : Places) (stored : List (List ℕ × Stored)) (es : List Entry) (bytes : List ℕ) (i place : ℕ) → length es ≤ i → SoFar nodes stored es bytes i place → HoldsSeries nodes stored es bytes
 series-end nodes stored es bytes i place past far =
     let none : drop i es ≡ [] = drop_all i es past in
     record {

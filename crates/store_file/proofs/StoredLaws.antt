@@ -6,42 +6,41 @@ use Rattle.std.proofs.lemmas.Option.{slice_get_cases}
 use Rattle.segment.specs.Nodes.{IsSeriesTree}
 use Rattle.segment.specs.Shape.{plan}
 use Rattle.segment.specs.Tree.{all_readings, IsTreeOver}
-use Rattle.seg_tree.specs.Linked.{tree_at}
+use Rattle.seg_tree.specs.Linked.{Places, tree_at}
 use Rattle.seg_tree.specs.Trees.{IsTreeAt, IsTreeOf, value_at, value_of}
-use Rattle.seg_tree.specs.declared.nodes.Node.{Node}
 use Rattle.store_file.specs.StoreValue.{name_of, AreNames, EachTree, IsStoreValue, entry_bytes, entries_bytes, tree_image, trees_image, fixed_bytes, header_of, store_image}
 use Rattle.store_file.specs.Stored.{series_of, AreOf, AreShort, StoreParts, IsSound, store_value, stored_entries}
 use Rattle.store_file.specs.declared.store.Stored.{Stored}
 
-pub count-tree : (nodes : List Node) (root : Option ℕ) (n : ℕ) → IsTreeAt nodes root n → length (all_readings (value_at nodes root n)) ≡ n
+pub count-tree : (nodes : Places) (root : Option ℕ) (n : ℕ) → IsTreeAt nodes root n → length (all_readings (value_at nodes root n)) ≡ n
 count-tree nodes None n h = sym h
 count-tree nodes (Some p) n h = h.1.long
 
-few-tree : (nodes : List Node) (root : Option ℕ) (n : ℕ) → IsTreeAt nodes root n → n ≤ 2 ^ 20
+few-tree : (nodes : Places) (root : Option ℕ) (n : ℕ) → IsTreeAt nodes root n → n ≤ 2 ^ 20
 few-tree nodes None n h = omega (arith, h)
 few-tree nodes (Some p) n h = h.1.few
 
-series-tree : (nodes : List Node) (root : Option ℕ) (n : ℕ) → IsTreeAt nodes root n → IsSeriesTree (length (all_readings (value_at nodes root n))) (value_at nodes root n)
+series-tree : (nodes : Places) (root : Option ℕ) (n : ℕ) → IsTreeAt nodes root n → IsSeriesTree (length (all_readings (value_at nodes root n))) (value_at nodes root n)
 series-tree nodes None n h = refl
 series-tree nodes (Some p) n h = subst (λ k. IsTreeOver k (tree_at nodes p (plan 0 n))) (sym h.1.long) h.1
 
-pub AreShort-of : (nodes : List Node) (es : List (List ℕ × Stored)) → AreOf nodes es → AreShort es
+pub AreShort-of : (nodes : Places) (es : List (List ℕ × Stored)) → AreOf nodes es → AreShort es
 AreShort-of nodes [] are = tt
 AreShort-of nodes (e ∷ es) are = (few-tree nodes e.1.tree.root e.1.tree.n are.0, AreShort-of nodes es are.1)
 
-pub length-series : (nodes : List Node) (es : List (List ℕ × Stored)) → length (series_of nodes es) ≡ length es
+pub length-series : (nodes : Places) (es : List (List ℕ × Stored)) → length (series_of nodes es) ≡ length es
 length-series nodes [] = refl
 length-series nodes (e ∷ es) = ap suc (length-series nodes es)
 
-pub names-series : (nodes : List Node) (es : List (List ℕ × Stored)) → map name_of (series_of nodes es) ≡ keys_of es
+pub names-series : (nodes : Places) (es : List (List ℕ × Stored)) → map name_of (series_of nodes es) ≡ keys_of es
 names-series nodes [] = refl
 names-series nodes (e ∷ es) = ap (λ q. e.0 ∷ q) (names-series nodes es)
 
-trees-series : (nodes : List Node) (es : List (List ℕ × Stored)) → AreOf nodes es → EachTree (series_of nodes es)
+trees-series : (nodes : Places) (es : List (List ℕ × Stored)) → AreOf nodes es → EachTree (series_of nodes es)
 trees-series nodes [] are = tt
 trees-series nodes (e ∷ es) are = (series-tree nodes e.1.tree.root e.1.tree.n are.0, trees-series nodes es are.1)
 
-entries-series : (nodes : List Node) (es : List (List ℕ × Stored)) → AreOf nodes es → entries_bytes (series_of nodes es) ≡ stored_entries es
+entries-series : (nodes : Places) (es : List (List ℕ × Stored)) → AreOf nodes es → entries_bytes (series_of nodes es) ≡ stored_entries es
 entries-series nodes [] are = refl
 entries-series nodes (e ∷ es) are = ap₂ ◌++◌ (ap (entry_bytes e.0) (count-tree nodes e.1.tree.root e.1.tree.n are.0)) (entries-series nodes es are.1)
 
@@ -101,14 +100,14 @@ pub entries-end : (i : ℕ) (es : List (List ℕ × Stored)) (a whole : List ℕ
 entries-end i es a whole past rest = sym (append-nil a) ∙ ap (λ q. a ++ stored_entries q) (sym (drop_all i es past)) ∙ rest
 
 -- the bytes of the trees that are left, which are of these nodes
-pub record TreesLeft (nodes : List Node) (es : List (List ℕ × Stored)) (a whole : List ℕ) : Type 0 where
+pub record TreesLeft (nodes : Places) (es : List (List ℕ × Stored)) (a whole : List ℕ) : Type 0 where
   pub rest : a ++ trees_image (series_of nodes es) ≡ whole
   pub are : AreOf nodes es
 
-pub trees-first : (nodes : List Node) (i : ℕ) (es : List (List ℕ × Stored)) (e : List ℕ × Stored) (a whole : List ℕ) → drop i es ≡ e ∷ drop (i + 1) es → TreesLeft nodes (drop i es) a whole → IsTreeOf nodes e.1.tree
+pub trees-first : (nodes : Places) (i : ℕ) (es : List (List ℕ × Stored)) (e : List ℕ × Stored) (a whole : List ℕ) → drop i es ≡ e ∷ drop (i + 1) es → TreesLeft nodes (drop i es) a whole → IsTreeOf nodes e.1.tree
 trees-first nodes i es e a whole at left = (subst (AreOf nodes) at left.are).0
 
-pub trees-step : (nodes : List Node) (i : ℕ) (es : List (List ℕ × Stored)) (e : List ℕ × Stored) (a b whole : List ℕ) → drop i es ≡ e ∷ drop (i + 1) es → TreesLeft nodes (drop i es) a whole
+pub trees-step : (nodes : Places) (i : ℕ) (es : List (List ℕ × Stored)) (e : List ℕ × Stored) (a b whole : List ℕ) → drop i es ≡ e ∷ drop (i + 1) es → TreesLeft nodes (drop i es) a whole
     → b ≡ a ++ tree_image (value_of nodes e.1.tree) → TreesLeft nodes (drop (i + 1) es) b whole
 trees-step nodes i es e a b whole at left put =
     record {
@@ -118,7 +117,7 @@ trees-step nodes i es e a b whole at left put =
       are = (subst (AreOf nodes) at left.are).1;
     }
 
-pub trees-end : (nodes : List Node) (i : ℕ) (es : List (List ℕ × Stored)) (a whole : List ℕ) → length es ≤ i → TreesLeft nodes (drop i es) a whole → a ≡ whole
+pub trees-end : (nodes : Places) (i : ℕ) (es : List (List ℕ × Stored)) (a whole : List ℕ) → length es ≤ i → TreesLeft nodes (drop i es) a whole → a ≡ whole
 trees-end nodes i es a whole past left = sym (append-nil a) ∙ ap (λ q. a ++ trees_image (series_of nodes q)) (sym (drop_all i es past)) ∙ left.rest
 
 pub short-first : (i : ℕ) (es : List (List ℕ × Stored)) (e : List ℕ × Stored) → drop i es ≡ e ∷ drop (i + 1) es → AreShort (drop i es) → (e.1.tree.n ≤ 2 ^ 20) × AreShort (drop (i + 1) es)

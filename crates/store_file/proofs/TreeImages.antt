@@ -2,14 +2,13 @@
 use Rattle.std.proofs.Common.{◌≡◌, ℕ, ◌+◌, ◌-◌, ◌≤◌, ℤ, List, ◌++◌, length, take, drop, sym, ap, ◌∙◌, append-nil, append_assoc}
 use Rattle.std.proofs.lemmas.List.{drop_all}
 use Rattle.segment.specs.Shape.{plan}
-use Rattle.seg_tree.specs.Linked.{kept, left_child, node_at, right_child, tree_at}
-use Rattle.seg_tree.specs.declared.nodes.Node.{Node}
+use Rattle.seg_tree.specs.Linked.{Places, kept, left_child, node_at, right_child, tree_at}
 use Rattle.seg_tree.proofs.Extended.{IsLeafAt, IsForkAt}
 use Rattle.tree_file.specs.Image.{words, image}
 use Rattle.tree_file.specs.Record.{record_of}
 
 -- a leaf: its record and its readings
-pub image-leaf : (nodes : List Node) (p start len : ℕ) (before own after : List ℕ) (xs : List ℤ) → IsLeafAt nodes p start len
+pub image-leaf : (nodes : Places) (p start len : ℕ) (before own after : List ℕ) (xs : List ℤ) → IsLeafAt nodes p start len
     → xs ≡ take len (kept (node_at nodes p).below)
     → own ≡ before ++ record_of (node_at nodes p).seg
     → after ≡ own ++ words xs
@@ -18,7 +17,7 @@ image-leaf nodes p start len before own after xs at is first second =
     rw (second, first, is, at.content) (append_assoc before (record_of (node_at nodes p).seg) (words (take len (kept (node_at nodes p).below))))
 
 -- a fork: its record, and the nodes of both parts
-pub image-fork : (nodes : List Node) (p start len s : ℕ) (before own left after : List ℕ) (l r : ℕ) → IsForkAt nodes p start len s
+pub image-fork : (nodes : Places) (p start len s : ℕ) (before own left after : List ℕ) (l r : ℕ) → IsForkAt nodes p start len s
     → l ≡ left_child (node_at nodes p).below → r ≡ right_child (node_at nodes p).below
     → own ≡ before ++ record_of (node_at nodes p).seg
     → left ≡ own ++ image (tree_at nodes l (plan start s))

@@ -4,6 +4,7 @@ use Rattle.semantics.specs.Names.{is_name}
 use Rattle.segment.specs.Measure.{AreReadings}
 use Rattle.segment.specs.Shape.{node_count}
 use Rattle.segment.specs.Tree.{fitted_series}
+use Rattle.seg_tree.specs.Linked.{used}
 use Rattle.seg_tree.specs.declared.arena.TreeErr.{TreeErr}
 use Rattle.seg_tree.specs.declared.arena.TreeErr.TheVariants as tree
 use Rattle.store_file.specs.StoreValue.{StoreValue, IsStoreValue, name_of, has_name}
@@ -30,7 +31,7 @@ name_refusal m name =
 abbrev pub readings_refusal : StoreParts → List ℤ → Option SeriesErr
 readings_refusal s xs =
     if nat_lt (2 ^ 20) (length xs) then Some refusal.TooLong else
-    (if nat_lt s.arena.limit (length s.arena.nodes + node_count (length xs)) then Some refusal.ArenaFull else None)
+    (if nat_lt s.arena.limit (used s.arena.nodes + node_count (length xs)) then Some refusal.ArenaFull else None)
 
 abbrev pub first_refusal : Option SeriesErr → Option SeriesErr → Option SeriesErr
 first_refusal (Some e) next = Some e
@@ -60,7 +61,7 @@ AddingKeepsStores = (m : StoreValue) (name : List ℕ) (xs : List ℤ) → IsSto
 
 -- room for the nodes of the longest series
 abbrev pub HasRoom : StoreParts → Type 0
-HasRoom s = length s.arena.nodes + 2 ^ 17 ≤ s.arena.limit
+HasRoom s = used s.arena.nodes + 2 ^ 17 ≤ s.arena.limit
 
 -- with room only the name of a short series may be refused
 abbrev pub RoomIsEnough : Type 0

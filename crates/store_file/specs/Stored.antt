@@ -3,18 +3,18 @@ use Rattle.std.specs.Prelude.{◌≡◌, ℕ, ◌+◌, ◌^◌, ◌≤◌, List,
 use Rattle.std.specs.Map.{keys_of}
 use Rattle.seg_tree.specs.Held.{Held}
 use Rattle.seg_tree.specs.Trees.{IsTreeOf, value_of}
-use Rattle.seg_tree.specs.declared.nodes.Node.{Node}
+use Rattle.seg_tree.specs.Linked.{Places}
 use Rattle.tree_file.specs.Image.{tree_size}
 use Rattle.store_file.specs.StoreValue.{Series, StoreValue, AreNames, entry_bytes}
 use Rattle.store_file.specs.declared.store.Stored.{Stored}
 
 -- the series at the entries of a map, in order
-abbrev pub series_of : List Node → List (List ℕ × Stored) → List Series
+abbrev pub series_of : Places → List (List ℕ × Stored) → List Series
 series_of nodes [] = []
 series_of nodes (e ∷ es) = record { name = e.0; tree = value_of nodes e.1.tree } ∷ series_of nodes es
 
 -- each tree is of these nodes
-abbrev pub AreOf : List Node → List (List ℕ × Stored) → Type 0
+abbrev pub AreOf : Places → List (List ℕ × Stored) → Type 0
 AreOf nodes [] = Unit {0}
 AreOf nodes (e ∷ es) = IsTreeOf nodes e.1.tree × AreOf nodes es
 

@@ -3,7 +3,7 @@
 ghost use Rattle.std.specs.Prelude.{◌≡◌, ◌⊎◌, ◌+◌, length, OnOk, OnErr, IfErr, None, Some};
 ghost use Rattle.segment.specs.Measure.{AreReadings};
 ghost use Rattle.segment.specs.Shape.{node_count};
-ghost use Rattle.seg_tree.specs.Linked.{Extends};
+ghost use Rattle.seg_tree.specs.Linked.{Extends, used};
 ghost use Rattle.store_file.specs.Added.{IsAddable, add_refusal, name_refusal, series_err_of, with_series};
 ghost use Rattle.store_file.specs.Stored.{store_value};
 
@@ -51,7 +51,7 @@ impl Store {
         ensures stay { OnErr result (self.new ≡ self.old) }
 
         ensures extends { Extends self.old.arena.nodes self.new.arena.nodes }
-        ensures count { OnOk result (length self.new.arena.nodes ≡ length self.old.arena.nodes + node_count (length xs.now)) }
+        ensures count { OnOk result (used self.new.arena.nodes ≡ used self.old.arena.nodes + node_count (length xs.now)) }
         ensures limit { self.new.arena.limit ≡ self.old.arena.limit }
     {
         if let Some(refusal) = self.name_refusal(&name) {

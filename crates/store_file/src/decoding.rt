@@ -1,6 +1,7 @@
 ghost use Rattle.std.specs.Prelude.{◌≡◌, ◌⊎◌, ◌+◌, ◌^◌, ◌<◌, ◌≤◌, length, take, drop, [], ◌∷◌, ◌++◌, false, Ok, Err, Some, IfOk, OnOk, IfErr, MatchResult};
 ghost use Rattle.std.specs.List.{All};
 ghost use Rattle.std.specs.Map.{keys_of};
+ghost use Rattle.seg_tree.specs.Linked.{used};
 ghost use Rattle.store_file.specs.Decoded.{IsShort, bad_in, by_series, decode_of, names_of, series_in, trees_size};
 ghost use Rattle.store_file.specs.Header.{fixed_of};
 ghost use Rattle.store_file.specs.StoreValue.{AreNames, StoreValue, has_name, IsStoreValue, store_image};
@@ -43,7 +44,7 @@ pub fn decode(alloc: Global, bytes: &[u8]) -> Result<Store, StoreErr>
 
     // Its arena has room for every series that can still be added.
     ensures limit { IfOk result (λ s. s.arena.limit ≡ 2 ^ 24) }
-    ensures room { IfOk result (λ s. length s.arena.nodes ≤ 2 ^ 21) }
+    ensures room { IfOk result (λ s. used s.arena.nodes ≤ 2 ^ 21) }
 {
     read_store(alloc, bytes)
 }
@@ -54,7 +55,7 @@ fn read_store(alloc: Global, bytes: &[u8]) -> Result<Store, StoreErr>
     ensures ok { IfOk result (λ s. decode_of bytes.now ≡ Ok (store_value s)) }
     ensures err { IfErr result (λ e. (e ≡ StoreErr.Memory) ⊎ (decode_of bytes.now ≡ Err e)) }
     ensures limit { IfOk result (λ s. s.arena.limit ≡ 2 ^ 24) }
-    ensures room { IfOk result (λ s. length s.arena.nodes ≤ 2 ^ 21) }
+    ensures room { IfOk result (λ s. used s.arena.nodes ≤ 2 ^ 21) }
 {
     let fixed = fixed_part(bytes)?;
     let entries = read_entries(alloc, bytes, fixed.count)?;
@@ -99,7 +100,7 @@ fn read_series(
     ensures ok { IfOk result (λ s. by_series fixed (series_in entries.now bytes.now) ≡ Ok (store_value s)) }
     ensures err { IfErr result (λ e. (e ≡ StoreErr.Memory) ⊎ (by_series fixed (series_in entries.now bytes.now) ≡ Err e)) }
     ensures limit { IfOk result (λ s. s.arena.limit ≡ 2 ^ 24) }
-    ensures room { IfOk result (λ s. length s.arena.nodes ≤ 2 ^ 21) }
+    ensures room { IfOk result (λ s. used s.arena.nodes ≤ 2 ^ 21) }
 {
     let mut arena = Arena::new(alloc, fixed.degree, LIMIT);
     let mut series = IndexMap::new(alloc);
@@ -135,7 +136,7 @@ fn push_series(
     ensures bad { IfErr result (λ e. (e ≡ StoreErr.Memory) ⊎ (bad_in (series_in entries.now bytes.now) ≡ Some e)) }
     ensures degree { arena.new.degree ≡ arena.old.degree }
     ensures limit { arena.new.limit ≡ arena.old.limit }
-    ensures room { OnOk result (length arena.new.nodes ≤ 2 ^ 21) }
+    ensures room { OnOk result (used arena.new.nodes ≤ 2 ^ 21) }
 {
     let mut place = 0;
     for i in 0..entries.len() {

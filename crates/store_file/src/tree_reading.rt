@@ -1,7 +1,7 @@
 ghost use Rattle.std.specs.Prelude.{◌≡◌, ◌⊎◌, ◌+◌, ◌-◌, ◌*◌, ◌^◌, ◌<◌, ◌≤◌, ◌++◌, length, take, drop, None, Some, IfOk, OnOk, IfErr};
 ghost use Rattle.segment.specs.Shape.{plan, IsSplit};
 ghost use Rattle.segment.specs.Tree.{readings_of, segs_of, all_readings, all_segs};
-ghost use Rattle.seg_tree.specs.Linked.{Extends};
+ghost use Rattle.seg_tree.specs.Linked.{Extends, used};
 ghost use Rattle.seg_tree.specs.Trees.{IsTreeOf, value_of};
 ghost use Rattle.tree_file.specs.Bytes.{number_of, unwrapped};
 ghost use Rattle.tree_file.specs.Image.{words_in, size, tree_size, tree_in};
@@ -26,14 +26,14 @@ pub(crate) fn read_tree(
 ) -> Result<Tree, StoreErr>
     requires few { n ≤ 2 ^ 20 }
     requires room { tree_size n ≤ length bytes.now }
-    requires places { length arena.old.nodes + 2 ^ 17 ≤ arena.old.limit }
+    requires places { used arena.old.nodes + 2 ^ 17 ≤ arena.old.limit }
     ensures tree { IfOk result (λ t. IsTreeOf arena.new.nodes t) }
     ensures value { IfOk result (λ t. value_of arena.new.nodes t ≡ series_tree n bytes.now) }
     ensures good { OnOk result (bad_in_tree name (series_tree n bytes.now) ≡ None) }
     ensures bad { IfErr result (λ e. (e ≡ StoreErr.Memory) ⊎ (bad_in_tree name (series_tree n bytes.now) ≡ Some e)) }
 
     ensures extends { Extends arena.old.nodes arena.new.nodes }
-    ensures count { OnOk result (length arena.new.nodes ≤ length arena.old.nodes + 2 ^ 17) }
+    ensures count { OnOk result (used arena.new.nodes ≤ used arena.old.nodes + 2 ^ 17) }
     ensures degree { arena.new.degree ≡ arena.old.degree }
     ensures limit { arena.new.limit ≡ arena.old.limit }
 {

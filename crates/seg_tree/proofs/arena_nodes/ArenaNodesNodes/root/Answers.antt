@@ -10,7 +10,7 @@ use Rattle.seg_tree.proofs.arena_nodes.ArenaNodesNodes.root.Goals as goal
 
 pub root_of-requires : goal.root_of-requires
 root_of-requires c =
-    let nodes = c.deref.ensures.value ∙ ap (λ (h : Held). h.nodes) c.arena.view_is in
+    let nodes = ap (λ (h : Held). h.nodes) c.arena.view_is in
     let trees = ap (λ (s : Reached). s.trees) c.self.view_is in
     let within : c.args.series < length c.self.inside.trees.now = omega (arith, c.requires, length-map c.args.self.now.trees len_of, ap length trees) in
     rw nodes (All-get_or (IsTreeOf c.self.inside.arena.now.nodes) c.self.inside.trees.now c.args.series no_tree within c.self.invariant.1)
@@ -25,54 +25,54 @@ returns-clause-none c =
 
 pub returns-clause-stands : goal.returns-clause-stands
 returns-clause-stands c =
-    let nodes = c.deref.ensures.value ∙ ap (λ (h : Held). h.nodes) c.arena.view_is ∙ ap (λ (s : Reached). s.nodes) c.self.view_is in
+    let nodes = ap (λ (h : Held). h.nodes) c.arena.view_is ∙ ap (λ (s : Reached). s.nodes) c.self.view_is in
     let trees = ap (λ (s : Reached). s.trees) c.self.view_is in
     let all = subst (λ (s : Reached). All (IsTreeOf s.nodes) s.trees) c.self.view_is c.self.invariant.1 in
     let within : c.args.series < length c.args.self.now.trees = omega (arith, c.requires, length-map c.args.self.now.trees len_of) in
-    let is = root_is c.args.self.now c.deref.result.now c.self.inside.trees.now c.args.series c.root_of.result nodes trees all within c.root_of.ensures.place c.root_of.ensures.seg in
+    let is = root_is c.args.self.now c.arena.inside.nodes.nodes c.self.inside.trees.now c.args.series c.root_of.result nodes trees all within c.root_of.ensures.place c.root_of.ensures.seg in
     for_some (IsRootAt c.args.self.now c.args.series) _ c.root_of.result (λ r h. h.at.stands) is
 
 pub returns-clause-starts : goal.returns-clause-starts
 returns-clause-starts c =
-    let nodes = c.deref.ensures.value ∙ ap (λ (h : Held). h.nodes) c.arena.view_is ∙ ap (λ (s : Reached). s.nodes) c.self.view_is in
+    let nodes = ap (λ (h : Held). h.nodes) c.arena.view_is ∙ ap (λ (s : Reached). s.nodes) c.self.view_is in
     let trees = ap (λ (s : Reached). s.trees) c.self.view_is in
     let all = subst (λ (s : Reached). All (IsTreeOf s.nodes) s.trees) c.self.view_is c.self.invariant.1 in
     let within : c.args.series < length c.args.self.now.trees = omega (arith, c.requires, length-map c.args.self.now.trees len_of) in
-    let is = root_is c.args.self.now c.deref.result.now c.self.inside.trees.now c.args.series c.root_of.result nodes trees all within c.root_of.ensures.place c.root_of.ensures.seg in
+    let is = root_is c.args.self.now c.arena.inside.nodes.nodes c.self.inside.trees.now c.args.series c.root_of.result nodes trees all within c.root_of.ensures.place c.root_of.ensures.seg in
     for_some (IsRootAt c.args.self.now c.args.series) _ c.root_of.result (λ r h. h.at.starts) is
 
 pub returns-clause-spans : goal.returns-clause-spans
 returns-clause-spans c =
-    let nodes = c.deref.ensures.value ∙ ap (λ (h : Held). h.nodes) c.arena.view_is ∙ ap (λ (s : Reached). s.nodes) c.self.view_is in
+    let nodes = ap (λ (h : Held). h.nodes) c.arena.view_is ∙ ap (λ (s : Reached). s.nodes) c.self.view_is in
     let trees = ap (λ (s : Reached). s.trees) c.self.view_is in
     let all = subst (λ (s : Reached). All (IsTreeOf s.nodes) s.trees) c.self.view_is c.self.invariant.1 in
     let within : c.args.series < length c.args.self.now.trees = omega (arith, c.requires, length-map c.args.self.now.trees len_of) in
-    let is = root_is c.args.self.now c.deref.result.now c.self.inside.trees.now c.args.series c.root_of.result nodes trees all within c.root_of.ensures.place c.root_of.ensures.seg in
+    let is = root_is c.args.self.now c.arena.inside.nodes.nodes c.self.inside.trees.now c.args.series c.root_of.result nodes trees all within c.root_of.ensures.place c.root_of.ensures.seg in
     for_some (IsRootAt c.args.self.now c.args.series) _ c.root_of.result (λ r h. h.at.spans) is
 
 pub returns-clause-sane : goal.returns-clause-sane
 returns-clause-sane c =
-    let nodes = c.deref.ensures.value ∙ ap (λ (h : Held). h.nodes) c.arena.view_is ∙ ap (λ (s : Reached). s.nodes) c.self.view_is in
+    let nodes = ap (λ (h : Held). h.nodes) c.arena.view_is ∙ ap (λ (s : Reached). s.nodes) c.self.view_is in
     let trees = ap (λ (s : Reached). s.trees) c.self.view_is in
     let all = subst (λ (s : Reached). All (IsTreeOf s.nodes) s.trees) c.self.view_is c.self.invariant.1 in
     let within : c.args.series < length c.args.self.now.trees = omega (arith, c.requires, length-map c.args.self.now.trees len_of) in
-    let is = root_is c.args.self.now c.deref.result.now c.self.inside.trees.now c.args.series c.root_of.result nodes trees all within c.root_of.ensures.place c.root_of.ensures.seg in
+    let is = root_is c.args.self.now c.arena.inside.nodes.nodes c.self.inside.trees.now c.args.series c.root_of.result nodes trees all within c.root_of.ensures.place c.root_of.ensures.seg in
     for_some (IsRootAt c.args.self.now c.args.series) _ c.root_of.result (λ r h. h.at.sane r.1 h.known) is
 
 pub returns-clause-seg : goal.returns-clause-seg
 returns-clause-seg c =
-    let nodes = c.deref.ensures.value ∙ ap (λ (h : Held). h.nodes) c.arena.view_is ∙ ap (λ (s : Reached). s.nodes) c.self.view_is in
+    let nodes = ap (λ (h : Held). h.nodes) c.arena.view_is ∙ ap (λ (s : Reached). s.nodes) c.self.view_is in
     let trees = ap (λ (s : Reached). s.trees) c.self.view_is in
     let all = subst (λ (s : Reached). All (IsTreeOf s.nodes) s.trees) c.self.view_is c.self.invariant.1 in
     let within : c.args.series < length c.args.self.now.trees = omega (arith, c.requires, length-map c.args.self.now.trees len_of) in
-    let is = root_is c.args.self.now c.deref.result.now c.self.inside.trees.now c.args.series c.root_of.result nodes trees all within c.root_of.ensures.place c.root_of.ensures.seg in
+    let is = root_is c.args.self.now c.arena.inside.nodes.nodes c.self.inside.trees.now c.args.series c.root_of.result nodes trees all within c.root_of.ensures.place c.root_of.ensures.seg in
     for_some (IsRootAt c.args.self.now c.args.series) _ c.root_of.result (λ r h. λ forest means. h.at.found forest means) is
 
 pub returns-clause-known : goal.returns-clause-known
 returns-clause-known c =
-    let nodes = c.deref.ensures.value ∙ ap (λ (h : Held). h.nodes) c.arena.view_is ∙ ap (λ (s : Reached). s.nodes) c.self.view_is in
+    let nodes = ap (λ (h : Held). h.nodes) c.arena.view_is ∙ ap (λ (s : Reached). s.nodes) c.self.view_is in
     let trees = ap (λ (s : Reached). s.trees) c.self.view_is in
     let all = subst (λ (s : Reached). All (IsTreeOf s.nodes) s.trees) c.self.view_is c.self.invariant.1 in
     let within : c.args.series < length c.args.self.now.trees = omega (arith, c.requires, length-map c.args.self.now.trees len_of) in
-    let is = root_is c.args.self.now c.deref.result.now c.self.inside.trees.now c.args.series c.root_of.result nodes trees all within c.root_of.ensures.place c.root_of.ensures.seg in
+    let is = root_is c.args.self.now c.arena.inside.nodes.nodes c.self.inside.trees.now c.args.series c.root_of.result nodes trees all within c.root_of.ensures.place c.root_of.ensures.seg in
     for_some (IsRootAt c.args.self.now c.args.series) _ c.root_of.result (λ r h. h.known) is

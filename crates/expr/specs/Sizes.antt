@@ -1,6 +1,7 @@
 -- The size of an expression over so many positions.
-use Rattle.std.specs.Prelude.{ℕ, ◌≡◌, ◌*◌, ◌^◌, ◌≤◌, List, false}
-use Rattle.semantics.specs.Measures.{rank_of, units_of, some_part, is_great_over}
+use Rattle.std.specs.Prelude.{ℕ, ◌≡◌, ◌*◌, ◌≤◌, List, false}
+use Rattle.semantics.specs.Measures.{rank_of, units_of, some_part, is_great_over, FitsOver}
+use Rattle.semantics.specs.Most.{range_limit}
 use Rattle.semantics.specs.Term.{Term}
 use Rattle.expr.specs.declared.size.Size.{Size}
 
@@ -8,7 +9,7 @@ use Rattle.expr.specs.declared.size.Size.{Size}
 pub record IsSizeOver (D : List ℕ → ℕ) (n : ℕ) (t : Term) (size : Size) : Type 0 where
   pub rank : size.rank ≡ rank_of t
   pub units : size.units ≡ units_of D t
-  pub fits : 16384 ^ rank_of t * n * units_of D t ≤ 2 ^ 125
-  pub few : size.units ≤ 2 ^ 125
-  pub spread : n * size.units ≤ 2 ^ 125
+  pub fits : FitsOver D n t
+  pub few : size.units ≤ range_limit
+  pub spread : n * size.units ≤ range_limit
   pub parts : some_part (is_great_over D n) t ≡ false

@@ -1,10 +1,10 @@
-//! The admission of a plain query over what is known of the series.
-
-ghost use Rattle.std.specs.Prelude.{◌≡◌, ◌≤◌, ◌<◌, ◌+◌, ◌*◌, ◌^◌, length, find, None, Some, IfErr, IfOk, IfSome, is_none};
+ghost use Rattle.std.specs.Prelude.{◌≡◌, ◌≤◌, ◌<◌, ◌+◌, ◌*◌, ◌^◌, length, find, None, Some, IfErr, IfOk, IfSome, OnOk, is_none};
 ghost use Rattle.std.specs.Option.{option_map};
 ghost use Rattle.semantics.specs.Admission.{bound_of, domain_rule, first_refusal, is_outside, is_too_great, is_unknown, nodes_of, query_names, range_rule, rank_rule, refusal_of, series_names, sums_of, HasLowRanks};
-ghost use Rattle.semantics.specs.Limits.{most_names, query_depth, series_depth, IsNearQuery, IsNearSeries, IsWithinLimits};
+ghost use Rattle.semantics.specs.Admitted.{IsAdmitted};
+ghost use Rattle.semantics.specs.Limits.{most_names_in, query_depth, series_depth, IsNearQuery, IsNearSeries, IsWithinLimits};
 ghost use Rattle.semantics.specs.Measures.{rank_of};
+ghost use Rattle.semantics.specs.Most.{most_depth, most_names, most_rank, range_limit};
 ghost use Rattle.semantics.specs.Plain.{IsPlain};
 ghost use Rattle.semantics.specs.Term.{sum};
 ghost use Rattle.expr.specs.Facts.{facts_of};
@@ -13,7 +13,7 @@ ghost use Rattle.expr.specs.Terms.{query_term_of, range_of, term_of};
 
 use crate::expression::{Bounds, Query, Series};
 use crate::facts::{Fact, is_unknown};
-use crate::measures::{MOST, domain_bounds, rank};
+use crate::measures::{MOST, MOST_RANK, domain_bounds, rank};
 use crate::name::Name;
 use crate::size::{extent, size_over};
 
@@ -75,7 +75,7 @@ fn unknown_in(q: &Query, facts: &[Fact]) -> Option<Name>
 #[tactic(auto, using(crate::proofs::Numbered::numbered))]
 fn test_ranks(q: &Query, first: u32) -> Result<u32, AdmitErr>
     requires plain { IsPlain (query_term_of q.now) }
-    requires names { most_names (query_term_of q.now) ≤ 32 }
+    requires names { most_names_in (query_term_of q.now) ≤ most_names }
     requires room { first + length (sums_of (query_term_of q.now)) < 2 ^ 32 }
     ensures passed { IfOk result (λ next.
         first_refusal rank_rule first (sums_of (query_term_of q.now)) ≡ None) }
@@ -86,7 +86,7 @@ fn test_ranks(q: &Query, first: u32) -> Result<u32, AdmitErr>
     match q {
         Query::Number(_) => Ok(first),
         Query::Sum(t, _) => {
-            if rank(t) > 2 {
+            if rank(t) > MOST_RANK {
                 Err(AdmitErr::Rank(first))
             } else {
                 Ok(first + 1)
@@ -109,7 +109,7 @@ fn is_outside(bounds: Bounds, domain: Bounds) -> bool
 
 /// The refusal of a sum with a range of its own, or none where that lies in the domain.
 fn domain_refusal(t: &Series, bounds: Bounds, facts: &[Fact], sum: u32) -> Option<AdmitErr>
-    requires depth { series_depth (term_of t.now) ≤ 65 }
+    requires depth { series_depth (term_of t.now) ≤ most_depth + 1 }
     requires near { IsNearSeries (term_of t.now) }
     ensures { option_map refusal_by result
         ≡ domain_rule (facts_of facts.now) sum (record { series = term_of t.now; range = Some (range_of bounds) }) }
@@ -130,7 +130,7 @@ fn domain_refusal(t: &Series, bounds: Bounds, facts: &[Fact], sum: u32) -> Optio
 #[tactic(auto, using(crate::proofs::Numbered::numbered))]
 fn test_domains(q: &Query, facts: &[Fact], first: u32) -> Result<u32, AdmitErr>
     requires plain { IsPlain (query_term_of q.now) }
-    requires depth { query_depth (query_term_of q.now) ≤ 64 }
+    requires depth { query_depth (query_term_of q.now) ≤ most_depth }
     requires near { IsNearQuery (query_term_of q.now) }
     requires room { first + length (sums_of (query_term_of q.now)) < 2 ^ 32 }
     ensures passed { IfOk result (λ next.
@@ -157,14 +157,14 @@ fn test_domains(q: &Query, facts: &[Fact], first: u32) -> Result<u32, AdmitErr>
 
 /// The bound of a sum, or none where the sum is too great.
 fn sum_bound(t: &Series, bounds: Option<Bounds>, facts: &[Fact]) -> Option<u128>
-    requires rank { rank_of (term_of t.now) ≤ 2 }
-    requires depth { series_depth (term_of t.now) ≤ 65 }
+    requires rank { rank_of (term_of t.now) ≤ most_rank }
+    requires depth { series_depth (term_of t.now) ≤ most_depth + 1 }
     requires near { IsNearSeries (term_of t.now) }
     ensures great { is_none result
         ≡ is_too_great (facts_of facts.now) (sum (term_of t.now) (option_map range_of bounds)) }
     ensures bound { IfSome result (λ bound.
         bound ≡ bound_of (facts_of facts.now) (sum (term_of t.now) (option_map range_of bounds))) }
-    ensures few { IfSome result (λ bound. bound ≤ 2 ^ 125) }
+    ensures few { IfSome result (λ bound. bound ≤ range_limit) }
 {
     let n = extent(t, bounds, facts);
     if n == 0 {
@@ -184,8 +184,8 @@ struct Tested {
 fn node_bound(bound: u128, node: u32) -> Result<Tested, AdmitErr>
     requires { node + 1 < 2 ^ 32 }
     ensures passed { IfOk result (λ tested.
-        (tested.next ≡ node + 1) × (tested.bound ≡ bound) × (bound ≤ 2 ^ 125)) }
-    ensures refused { IfErr result (λ e. (2 ^ 125 < bound) × (e ≡ AdmitErr.Range node)) }
+        (tested.next ≡ node + 1) × (tested.bound ≡ bound) × (bound ≤ range_limit)) }
+    ensures refused { IfErr result (λ e. (range_limit < bound) × (e ≡ AdmitErr.Range node)) }
 {
     if bound <= MOST {
         Ok(Tested {
@@ -200,8 +200,8 @@ fn node_bound(bound: u128, node: u32) -> Result<Tested, AdmitErr>
 fn product_bound(left: u128, right: u128, node: u32) -> Result<Tested, AdmitErr>
     requires { node + 1 < 2 ^ 32 }
     ensures passed { IfOk result (λ tested.
-        (tested.next ≡ node + 1) × (tested.bound ≡ left * right) × (left * right ≤ 2 ^ 125)) }
-    ensures refused { IfErr result (λ e. (2 ^ 125 < left * right) × (e ≡ AdmitErr.Range node)) }
+        (tested.next ≡ node + 1) × (tested.bound ≡ left * right) × (left * right ≤ range_limit)) }
+    ensures refused { IfErr result (λ e. (range_limit < left * right) × (e ≡ AdmitErr.Range node)) }
 {
     match left.checked_mul(right) {
         Some(bound) => node_bound(bound, node),
@@ -213,7 +213,7 @@ fn product_bound(left: u128, right: u128, node: u32) -> Result<Tested, AdmitErr>
 #[tactic(auto, using(crate::proofs::Numbered::noded))]
 fn test_bounds(q: &Query, facts: &[Fact], first: u32) -> Result<Tested, AdmitErr>
     requires plain { IsPlain (query_term_of q.now) }
-    requires depth { query_depth (query_term_of q.now) ≤ 64 }
+    requires depth { query_depth (query_term_of q.now) ≤ most_depth }
     requires near { IsNearQuery (query_term_of q.now) }
     requires ranks { HasLowRanks (query_term_of q.now) }
     requires room { first + length (nodes_of (query_term_of q.now)) < 2 ^ 32 }
@@ -221,7 +221,7 @@ fn test_bounds(q: &Query, facts: &[Fact], first: u32) -> Result<Tested, AdmitErr
         first_refusal (range_rule (facts_of facts.now)) first (nodes_of (query_term_of q.now)) ≡ None) }
     ensures next { IfOk result (λ tested. tested.next ≡ first + length (nodes_of (query_term_of q.now))) }
     ensures bound { IfOk result (λ tested. tested.bound ≡ bound_of (facts_of facts.now) (query_term_of q.now)) }
-    ensures few { IfOk result (λ tested. tested.bound ≤ 2 ^ 125) }
+    ensures few { IfOk result (λ tested. tested.bound ≤ range_limit) }
     ensures refused { IfErr result (λ e.
         first_refusal (range_rule (facts_of facts.now)) first (nodes_of (query_term_of q.now)) ≡ Some (refusal_by e)) }
 {
@@ -258,7 +258,8 @@ fn test_bounds(q: &Query, facts: &[Fact], first: u32) -> Result<Tested, AdmitErr
 pub fn admit(q: &Query, facts: &[Fact]) -> Result<(), AdmitErr>
     requires plain { IsPlain (query_term_of q.now) }
     requires limits { IsWithinLimits (query_term_of q.now) }
-    ensures { refusal_of (facts_of facts.now) (query_term_of q.now) ≡ refusal_told result }
+    ensures refusal { refusal_of (facts_of facts.now) (query_term_of q.now) ≡ refusal_told result }
+    ensures admitted { OnOk result (IsAdmitted (facts_of facts.now) (query_term_of q.now)) }
 {
     if let Some(name) = unknown_in(q, facts) {
         return Err(AdmitErr::Unknown(name));

@@ -1,5 +1,3 @@
-//! Expressions over series, and queries over their sums.
-
 ghost use Rattle.std.specs.Prelude.{◌≡◌, IfOk};
 ghost use Rattle.expr.specs.Terms.{query_term_of, term_of};
 
@@ -69,7 +67,7 @@ impl Series {
     fn copy_box(&self, alloc: Global) -> Result<Box<Series>, Memory>
         ensures { IfOk result (λ t. term_of t.value ≡ term_of self.now) }
     {
-        Box::new(alloc, self.copy(alloc)?).map_err(|_| Memory)
+        Ok(Box::new(alloc, self.copy(alloc)?)?)
     }
 }
 
@@ -93,6 +91,6 @@ impl Query {
     fn copy_box(&self, alloc: Global) -> Result<Box<Query>, Memory>
         ensures { IfOk result (λ q. query_term_of q.value ≡ query_term_of self.now) }
     {
-        Box::new(alloc, self.copy(alloc)?).map_err(|_| Memory)
+        Ok(Box::new(alloc, self.copy(alloc)?)?)
     }
 }

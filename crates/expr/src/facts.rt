@@ -1,5 +1,3 @@
-//! What is known of the series.
-
 ghost use Rattle.std.specs.Prelude.{◌≡◌, find};
 ghost use Rattle.std.specs.Option.{option_copied};
 ghost use Rattle.semantics.specs.Admission.{count_at, greatest_at, is_unknown};

@@ -1,10 +1,9 @@
-//! How large an expression can be, and where it has values.
-
 ghost use Rattle.std.specs.Prelude.{◌≡◌, ◌≤◌, ◌<◌, ◌*◌, ◌+◌, ◌^◌, ◌+ℤ◌, unsigned_abs, IfSome, MatchOption, is_none};
 ghost use Rattle.std.specs.Int.{int_max};
 ghost use Rattle.semantics.specs.Admission.{count_at, greatest_at};
 ghost use Rattle.semantics.specs.Limits.{series_depth, IsNearSeries};
 ghost use Rattle.semantics.specs.Measures.{has_great_units, names_in, rank_of, some_part, units_of};
+ghost use Rattle.semantics.specs.Most.{most_depth, most_names, most_shift, range_limit};
 ghost use Rattle.semantics.specs.Value.{common, domain_of, moved};
 ghost use Rattle.expr.specs.Facts.{facts_of};
 ghost use Rattle.expr.specs.Terms.{range_of, term_of};
@@ -15,10 +14,13 @@ use crate::facts::{Fact, count_at, greatest_at};
 /// The greatest magnitude that is admitted.
 pub(crate) const MOST: u128 = 1 << 125;
 
+/// The greatest rank of a sum that is admitted.
+pub(crate) const MOST_RANK: u32 = 2;
+
 /// How many stored series are multiplied at most.
 #[tactic(auto, using(crate::proofs::Ranks::rank_le_names))]
 pub fn rank(t: &Series) -> u32
-    requires { names_in (term_of t.now) ≤ 32 }
+    requires { names_in (term_of t.now) ≤ most_names }
     ensures { result ≡ rank_of (term_of t.now) }
 {
     match t {
@@ -31,8 +33,8 @@ pub fn rank(t: &Series) -> u32
 }
 
 fn moved_by(position: i64, k: i64) -> i64
-    requires position { unsigned_abs position ≤ 2 ^ 40 * 65 }
-    requires shift { unsigned_abs k ≤ 2 ^ 40 }
+    requires position { unsigned_abs position ≤ most_shift * (most_depth + 1) }
+    requires shift { unsigned_abs k ≤ most_shift }
     ensures { result ≡ (position +ℤ k) }
 {
     position + k
@@ -48,9 +50,9 @@ fn common(a: Bounds, b: Bounds) -> Bounds
 }
 
 fn moved(a: Bounds, k: i64) -> Bounds
-    requires left { unsigned_abs a.l ≤ 2 ^ 40 * 65 }
-    requires right { unsigned_abs a.r ≤ 2 ^ 40 * 65 }
-    requires shift { unsigned_abs k ≤ 2 ^ 40 }
+    requires left { unsigned_abs a.l ≤ most_shift * (most_depth + 1) }
+    requires right { unsigned_abs a.r ≤ most_shift * (most_depth + 1) }
+    requires shift { unsigned_abs k ≤ most_shift }
     ensures { range_of result ≡ moved (range_of a) k }
 {
     Bounds {
@@ -61,11 +63,11 @@ fn moved(a: Bounds, k: i64) -> Bounds
 
 /// The domain of an expression as it stands: it is empty where `r` isn't above `l`.
 pub(crate) fn domain_bounds(t: &Series, facts: &[Fact]) -> Bounds
-    requires depth { series_depth (term_of t.now) ≤ 65 }
+    requires depth { series_depth (term_of t.now) ≤ most_depth + 1 }
     requires near { IsNearSeries (term_of t.now) }
     ensures domain { range_of result ≡ domain_of (count_at (facts_of facts.now)) (term_of t.now) }
-    ensures left { unsigned_abs result.l ≤ 2 ^ 40 * series_depth (term_of t.now) }
-    ensures right { unsigned_abs result.r ≤ 2 ^ 40 * series_depth (term_of t.now) }
+    ensures left { unsigned_abs result.l ≤ most_shift * series_depth (term_of t.now) }
+    ensures right { unsigned_abs result.r ≤ most_shift * series_depth (term_of t.now) }
 {
     match t {
         Series::Base(name) => Bounds {
@@ -88,7 +90,7 @@ pub(crate) fn domain_bounds(t: &Series, facts: &[Fact]) -> Bounds
 /// The positions at which an expression has a value, from the first to before the second; an empty domain is answered as
 /// its start twice.
 pub fn domain(t: &Series, facts: &[Fact]) -> (i64, i64)
-    requires depth { series_depth (term_of t.now) ≤ 65 }
+    requires depth { series_depth (term_of t.now) ≤ most_depth + 1 }
     requires near { IsNearSeries (term_of t.now) }
     ensures start { result.0 ≡ (domain_of (count_at (facts_of facts.now)) (term_of t.now)).left }
     ensures end { result.1 ≡ (let d = domain_of (count_at (facts_of facts.now)) (term_of t.now) in int_max d.left d.right) }
@@ -98,13 +100,13 @@ pub fn domain(t: &Series, facts: &[Fact]) -> (i64, i64)
 }
 
 fn within(units: u128) -> Option<u128>
-    ensures { MatchOption result (2 ^ 125 < units) (λ u. (u ≡ units) × (units ≤ 2 ^ 125)) }
+    ensures { MatchOption result (range_limit < units) (λ u. (u ≡ units) × (units ≤ range_limit)) }
 {
     if units <= MOST { Some(units) } else { None }
 }
 
 fn constant_units(v: i128) -> Option<u128>
-    ensures { MatchOption result (2 ^ 125 < 2 * unsigned_abs v) (λ u. (u ≡ 2 * unsigned_abs v) × (u ≤ 2 ^ 125)) }
+    ensures { MatchOption result (range_limit < 2 * unsigned_abs v) (λ u. (u ≡ 2 * unsigned_abs v) × (u ≤ range_limit)) }
 {
     let magnitude = within(v.unsigned_abs())?;
     within(2 * magnitude)
@@ -115,7 +117,7 @@ fn constant_units(v: i128) -> Option<u128>
 pub fn h_units(t: &Series, facts: &[Fact]) -> Option<u128>
     ensures great { is_none result ≡ some_part (has_great_units (greatest_at (facts_of facts.now))) (term_of t.now) }
     ensures units { IfSome result (λ units. units ≡ units_of (greatest_at (facts_of facts.now)) (term_of t.now)) }
-    ensures bound { IfSome result (λ units. units ≤ 2 ^ 125) }
+    ensures bound { IfSome result (λ units. units ≤ range_limit) }
 {
     match t {
         Series::Base(name) => within(128 * u128::from(greatest_at(facts, name).max(1))),

@@ -1,5 +1,3 @@
-//! Names of series.
-
 ghost use Rattle.std.specs.Prelude.{◌≡◌, IfSome, IsTrue, is_some};
 ghost use Rattle.std.specs.List.{list_all};
 ghost use Rattle.std.specs.Hash as fed;
@@ -10,11 +8,14 @@ ghost use Rattle.semantics.specs.Names.{begins_with_letter, is_name, is_reserved
 use std::hash::{Hash, Hasher};
 use std::marker::Model;
 
+/// The most bytes of a word.
+const MOST_WORD: usize = 32;
+
 /// A letter, and then letters, digits and `_`, 1 to 32 bytes in all, and no word of the query language.
 #[derive(Clone, Copy, Debug)]
 pub struct Name {
     len: u8,
-    bytes: [u8; 32],
+    bytes: [u8; MOST_WORD],
 }
 
 impl Model for Name {
@@ -67,7 +68,7 @@ impl Name {
             return None;
         }
         let len = bytes.len();
-        let mut padded = [0u8; 32];
+        let mut padded = [0u8; MOST_WORD];
         padded[..len].copy_from_slice(bytes);
         Some(Name {
             len: len as u8,
@@ -83,7 +84,8 @@ impl Name {
     }
 }
 
-fn is_word_byte(byte: u8) -> bool
+/// Whether a byte is a letter, a digit or `_`.
+pub fn is_word_byte(byte: u8) -> bool
     ensures { result ≡ is_word_byte byte }
 {
     byte.is_ascii_alphabetic() || byte.is_ascii_digit() || byte == b'_'
@@ -107,7 +109,7 @@ fn has_word_bytes(bytes: &[u8]) -> bool
 fn is_word(bytes: &[u8]) -> bool
     ensures { result ≡ is_word bytes.now }
 {
-    begins_with_letter(bytes) && has_word_bytes(bytes) && bytes.len() <= 32
+    begins_with_letter(bytes) && has_word_bytes(bytes) && bytes.len() <= MOST_WORD
 }
 
 fn is_text(bytes: &[u8], text: &str) -> bool

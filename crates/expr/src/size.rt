@@ -1,10 +1,9 @@
-//! The rank and the units of an expression over so many positions, where no part is too great.
-
 ghost use Rattle.std.specs.Prelude.{◌≡◌, ◌≤◌, ◌<◌, ◌+◌, ◌*◌, ◌^◌, max, true, unsigned_abs, IfSome, MatchOption};
 ghost use Rattle.std.specs.Option.{option_map};
 ghost use Rattle.semantics.specs.Admission.{extent_of, greatest_at, longest};
 ghost use Rattle.semantics.specs.Limits.{series_depth, IsNearSeries};
 ghost use Rattle.semantics.specs.Measures.{is_great_over, rank_of, some_part};
+ghost use Rattle.semantics.specs.Most.{most_depth, most_rank, range_limit};
 ghost use Rattle.semantics.specs.Readings.{positions_in};
 ghost use Rattle.expr.specs.Facts.{facts_of};
 ghost use Rattle.expr.specs.Sizes.{IsSizeOver};
@@ -24,9 +23,9 @@ pub(crate) struct Size {
 impl Size {
     /// Twice the units over n positions, and 1 at least; none where that passes 2^125.
     pub(crate) fn bound_over(self, n: u64) -> Option<u128>
-        requires { n * self.units ≤ 2 ^ 125 }
-        ensures { MatchOption result (2 ^ 125 < max 1 (2 * n * self.units))
-            (λ bound. (bound ≡ max 1 (2 * n * self.units)) × (bound ≤ 2 ^ 125)) }
+        requires { n * self.units ≤ range_limit }
+        ensures { MatchOption result (range_limit < max 1 (2 * n * self.units))
+            (λ bound. (bound ≡ max 1 (2 * n * self.units)) × (bound ≤ range_limit)) }
     {
         let bound = (2 * (u128::from(n) * self.units)).max(1);
         if bound <= MOST { Some(bound) } else { None }
@@ -34,7 +33,7 @@ impl Size {
 }
 
 fn scale(rank: u32) -> u128
-    requires { rank ≤ 2 }
+    requires { rank ≤ most_rank }
     ensures value { result ≡ 16384 ^ rank }
     ensures bound { result ≤ 2 ^ 28 }
 {
@@ -48,13 +47,13 @@ fn scale(rank: u32) -> u128
 /// The size with this rank and these units, or none where they are too great over n positions.
 #[tactic(auto, using(crate::proofs::Products::products))]
 fn bounded(rank: u32, units: u128, n: u64) -> Option<Size>
-    requires rank { rank ≤ 2 }
+    requires rank { rank ≤ most_rank }
     requires some { 1 ≤ n }
     ensures size { IfSome result (λ size. (size.rank ≡ rank) × (size.units ≡ units)) }
-    ensures fits { MatchOption result (2 ^ 125 < 16384 ^ rank * n * units)
-        (λ size. 16384 ^ rank * n * units ≤ 2 ^ 125) }
-    ensures few { IfSome result (λ size. units ≤ 2 ^ 125) }
-    ensures spread { IfSome result (λ size. n * units ≤ 2 ^ 125) }
+    ensures fits { MatchOption result (range_limit < 16384 ^ rank * n * units)
+        (λ size. 16384 ^ rank * n * units ≤ range_limit) }
+    ensures few { IfSome result (λ size. units ≤ range_limit) }
+    ensures spread { IfSome result (λ size. n * units ≤ range_limit) }
 {
     let total = (scale(rank) * u128::from(n)).checked_mul(units)?;
     if total <= MOST {
@@ -66,22 +65,22 @@ fn bounded(rank: u32, units: u128, n: u64) -> Option<Size>
 
 fn constant_size(v: i128, n: u64) -> Option<Size>
     requires { 1 ≤ n }
-    ensures { MatchOption result (2 ^ 125 < n * (2 * unsigned_abs v))
-        (λ size. (size.rank ≡ 0) × (size.units ≡ 2 * unsigned_abs v) × (n * (2 * unsigned_abs v) ≤ 2 ^ 125)) }
+    ensures { MatchOption result (range_limit < n * (2 * unsigned_abs v))
+        (λ size. (size.rank ≡ 0) × (size.units ≡ 2 * unsigned_abs v) × (n * (2 * unsigned_abs v) ≤ range_limit)) }
 {
     bounded(0, v.unsigned_abs().checked_mul(2)?, n)
 }
 
 #[tactic(auto, using(crate::proofs::Products::products))]
 fn product_size(left: Size, right: Size, n: u64) -> Option<Size>
-    requires rank { left.rank + right.rank ≤ 2 }
+    requires rank { left.rank + right.rank ≤ most_rank }
     requires some { 1 ≤ n }
     ensures size { IfSome result (λ size.
         (size.rank ≡ left.rank + right.rank) × (size.units ≡ left.units * right.units)) }
     ensures fits { let product = 16384 ^ (left.rank + right.rank) * n * (left.units * right.units)
-        in MatchOption result (2 ^ 125 < product) (λ size. product ≤ 2 ^ 125) }
-    ensures few { IfSome result (λ size. left.units * right.units ≤ 2 ^ 125) }
-    ensures spread { IfSome result (λ size. n * (left.units * right.units) ≤ 2 ^ 125) }
+        in MatchOption result (range_limit < product) (λ size. product ≤ range_limit) }
+    ensures few { IfSome result (λ size. left.units * right.units ≤ range_limit) }
+    ensures spread { IfSome result (λ size. n * (left.units * right.units) ≤ range_limit) }
 {
     match left.units.checked_mul(right.units) {
         Some(units) => bounded(left.rank + right.rank, units, n),
@@ -91,7 +90,7 @@ fn product_size(left: Size, right: Size, n: u64) -> Option<Size>
 
 /// The size of an expression, or none where a part of it is too great over n positions.
 pub(crate) fn size_over(t: &Series, facts: &[Fact], n: u64) -> Option<Size>
-    requires rank { rank_of (term_of t.now) ≤ 2 }
+    requires rank { rank_of (term_of t.now) ≤ most_rank }
     requires some { 1 ≤ n }
     ensures { let greatest = greatest_at (facts_of facts.now)
         in MatchOption result (some_part (is_great_over greatest n) (term_of t.now) ≡ true) (IsSizeOver greatest n (term_of t.now)) }
@@ -140,7 +139,7 @@ fn positions_in(bounds: Bounds) -> u64
 
 /// The greater of the length of the longest series named and of the length of the range.
 pub(crate) fn extent(t: &Series, bounds: Option<Bounds>, facts: &[Fact]) -> u64
-    requires depth { series_depth (term_of t.now) ≤ 65 }
+    requires depth { series_depth (term_of t.now) ≤ most_depth + 1 }
     requires near { IsNearSeries (term_of t.now) }
     ensures { result ≡ extent_of (facts_of facts.now) (term_of t.now) (option_map range_of bounds) }
 {

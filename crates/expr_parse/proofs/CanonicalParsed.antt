@@ -2,7 +2,7 @@
 use Rattle.std.proofs.Common.{◌≡◌, ◌≤◌, ℕ, Bool, true, false, cond, ltb, List, [], ◌∷◌, length, map, ◌∙◌, refl, sym, ap, subst, arith}
 use Rattle.std.specs.Prelude.{Option, Some, None, Result, Ok, Err}
 use Rattle.std.proofs.lemmas.Bool.Decides.{nat_tests}
-use Rattle.semantics.specs.Limits.{IsWithinLimits, most_names, query_depth, sums_in}
+use Rattle.semantics.specs.Limits.{IsWithinLimits, most_names_in, query_depth, sums_in}
 use Rattle.semantics.specs.Term.{QueryTerm}
 use Rattle.expr_parse.specs.declared.canonical.Level.TheVariants.{OfSum}
 use Rattle.expr_parse.specs.declared.error.ParseErr.{ParseErr}
@@ -40,7 +40,7 @@ limited_at : (q : QueryTerm) → IsWithinLimits q → limited q ≡ Ok q
 limited_at q h =
     let depth : ltb 64 (query_depth q) ≡ false = grind (arith, nat_tests, h.depth) in
     let sums : ltb 16 (sums_in q) ≡ false = grind (arith, nat_tests, h.sums) in
-    let names : ltb 32 (most_names q) ≡ false = grind (arith, nat_tests, h.names) in
+    let names : ltb 32 (most_names_in q) ≡ false = grind (arith, nat_tests, h.names) in
     rw (depth, sums, names) refl
 
 by_lexemes_at : (text : List ℕ) (ts : List Token) (said : List Lexeme) (q : QueryTerm) → is_nested 0 0 said ≡ false → IsQuery said [] q → limited q ≡ Ok q → by_lexemes text ts said ≡ Ok q
@@ -60,7 +60,7 @@ canonical_is_parsed q named h short =
 -- ---- what is parsed has a derivation
 
 limited_same : (p q : QueryTerm) → limited p ≡ Ok q → p ≡ q
-limited_same p q h = by (ltb 64 (query_depth p)) (ltb 16 (sums_in p)) (ltb 32 (most_names p)) h
+limited_same p q h = by (ltb 64 (query_depth p)) (ltb 16 (sums_in p)) (ltb 32 (most_names_in p)) h
   where
     by : (a b c : Bool) → cond a (Err refusal.TooDeep) (cond b (Err refusal.TooManySums) (cond c (Err refusal.TooManyNames) (Ok p))) ≡ Ok q → p ≡ q
     by true b c e = cc e

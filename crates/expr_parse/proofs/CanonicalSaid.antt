@@ -11,7 +11,8 @@ use Rattle.std.proofs.lemmas.List.{append-nil}
 use Rattle.num_text.specs.Cells.{is_blank}
 use Rattle.semantics.specs.Limits.{HasSmallConstants, HasSmallNumbers, IsNear, IsNearQuery, IsNearRange, IsNearSeries, IsSmall}
 use Rattle.semantics.specs.Names.{begins_with_letter, is_name, is_reserved, is_word, is_word_byte}
-use Rattle.semantics.specs.Numbers.{has_minus, is_number, most_magnitude, number_in, number_of, with_sign, without_minus}
+use Rattle.semantics.specs.Most.{most_number}
+use Rattle.semantics.specs.Numbers.{has_minus, is_number, number_in, number_of, with_sign, without_minus}
 use Rattle.semantics.specs.Term as t
 use Rattle.semantics.specs.Term.{Term, Range, QueryTerm}
 use Rattle.semantics.proofs.NumberLaws.{number_in-signed_decimal}
@@ -231,7 +232,7 @@ numerals = numerals_by_value _ all_digits
 digits_of_numeral : (digits : List ℕ) → AllDigits 10 digits → list_all is_ascii_digit digits ≡ true
 digits_of_numeral digits h = numerals.from digits h
 
-says_number : (n : ℕ) (rest : List ℕ) (said : List Lexeme) → n ≤ most_magnitude → is_apart rest ≡ true → Says rest said → Says (decimal n ++ rest) (Number n ∷ said)
+says_number : (n : ℕ) (rest : List ℕ) (said : List Lexeme) → n ≤ most_number → is_apart rest ≡ true → Says rest said → Says (decimal n ++ rest) (Number n ∷ said)
 says_number n rest said small apart h =
     let facts = (decimal_is_IsNumeral_wide n (omega arith)).0 in
     says_digits (decimal n) rest n said facts.0 (digits_of_numeral (decimal n) facts.1) (number_in-signed_decimal (pos n) small) apart h

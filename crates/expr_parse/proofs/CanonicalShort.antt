@@ -12,7 +12,8 @@ use Rattle.std.proofs.lemmas.List.Sums.{prefix_len-le-length}
 use Rattle.std.proofs.lemmas.Slice.Eq.{bytes_eq-Decides}
 use Rattle.num_text.specs.Cells.{is_blank}
 use Rattle.semantics.specs.Names.{begins_with_letter, is_reserved, is_word, is_word_byte}
-use Rattle.semantics.specs.Numbers.{are_digits, has_minus, is_number, most_magnitude, number_in, number_of, with_sign, without_minus}
+use Rattle.semantics.specs.Most.{most_number}
+use Rattle.semantics.specs.Numbers.{are_digits, has_minus, is_number, number_in, number_of, with_sign, without_minus}
 use Rattle.semantics.specs.Term as t
 use Rattle.semantics.specs.Term.{Term, Range, QueryTerm}
 use Rattle.semantics.proofs.NumberLaws.{number_of-small}
@@ -193,7 +194,7 @@ begins p x xs h =
     let one_more : prefix_len p (x ∷ xs) ≡ suc (prefix_len p xs) = rw h (omega arith) in
     (omega (arith, one_more), ap (λ k. take k (x ∷ xs)) one_more)
 
-decimal_width : (digits : List ℕ) → are_digits digits ≡ true → number_of digits ≤ most_magnitude → length (decimal (number_of digits)) ≤ length digits
+decimal_width : (digits : List ℕ) → are_digits digits ≡ true → number_of digits ≤ most_number → length (decimal (number_of digits)) ≤ length digits
 decimal_width digits h small =
     let some : 0 < length digits = grind (arith, nat_tests, h) in
     let all : list_all is_ascii_digit digits ≡ true = grind (arith, nat_tests, h) in
@@ -220,7 +221,7 @@ magnitude_is text h = ap (λ o. elim o [ None ↦ 0 | Some v ↦ unsigned_abs v 
 number_width : (text : List ℕ) → is_number text ≡ true → length (decimal (magnitude_in text)) ≤ length text
 number_width text h =
     let digits : are_digits (without_minus text) ≡ true = grind (arith, nat_tests, h) in
-    let small : number_of (without_minus text) ≤ most_magnitude = grind (arith, nat_tests, h) in
+    let small : number_of (without_minus text) ≤ most_number = grind (arith, nat_tests, h) in
     omega (arith, ap (λ n. length (decimal n)) (magnitude_is text h), decimal_width (without_minus text) digits small, without_minus_length text)
 
 -- the token at the front is as long as what it says, at least

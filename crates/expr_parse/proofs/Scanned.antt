@@ -9,7 +9,8 @@ use Rattle.expr_parse.specs.declared.token.Token.{Token}
 use Rattle.expr_parse.specs.Tokens.{front, at_front, before, tokens_from, tokens_of, AreInOrder}
 use Rattle.num_text.specs.Cells.{is_blank}
 use Rattle.semantics.specs.Names.{is_word_byte}
-use Rattle.semantics.specs.Numbers.{are_digits, has_minus, most_magnitude, number_in, number_of, with_sign, without_minus}
+use Rattle.semantics.specs.Most.{most_number}
+use Rattle.semantics.specs.Numbers.{are_digits, has_minus, number_in, number_of, with_sign, without_minus}
 use Rattle.std.specs.Char.{is_ascii_digit}
 use Rattle.std.specs.List.{prefix_len}
 use Rattle.std.proofs.lemmas.Bool.Decides.{nat_tests}
@@ -29,13 +30,13 @@ digits_within text = prefix_len-le-length is_ascii_digit text
 
 -- a number in text is not too large
 pub number_in_small : (text : List ℕ) (v : ℤ) → number_in text ≡ Some v → unsigned_abs v < 2 ^ 127
-number_in_small text v h = by (are_digits (without_minus text)) (leb (number_of (without_minus text)) most_magnitude) refl h
+number_in_small text v h = by (are_digits (without_minus text)) (leb (number_of (without_minus text)) most_number) refl h
   where
-    signed : (negative : Bool) (n : ℕ) → with_sign negative n ≡ v → n ≤ most_magnitude → unsigned_abs v < 2 ^ 127
+    signed : (negative : Bool) (n : ℕ) → with_sign negative n ≡ v → n ≤ most_number → unsigned_abs v < 2 ^ 127
     signed true n e small = omega (arith, ints)
     signed false n e small = omega (arith, ints)
 
-    by : (digits small : Bool) → leb (number_of (without_minus text)) most_magnitude ≡ small
+    by : (digits small : Bool) → leb (number_of (without_minus text)) most_number ≡ small
         → cond (digits && small) (Some (with_sign (has_minus text) (number_of (without_minus text)))) None ≡ Some v → unsigned_abs v < 2 ^ 127
     by true true e h =
         let same : with_sign (has_minus text) (number_of (without_minus text)) ≡ v = cc in

@@ -1,7 +1,7 @@
 -- All tokens, or not all; and what that means for a text.
-use Rattle.std.proofs.Common.{◌≡◌, ◌↔◌, ℕ, ◌≤◌, false, List, [], ◌∷◌, ◌∙◌, ◌⊎◌, inl, inr, length, map, sym, subst, refl}
+use Rattle.std.proofs.Common.{arith, ◌≡◌, ◌↔◌, ℕ, ◌≤◌, false, List, [], ◌∷◌, ◌∙◌, ◌⊎◌, inl, inr, length, map, sym, subst, refl}
 use Rattle.std.specs.Prelude.{None, Some, Ok, Err}
-use Rattle.semantics.specs.Limits.{most_names, query_depth, sums_in, IsWithinLimits}
+use Rattle.semantics.specs.Limits.{most_names_in, query_depth, sums_in, IsWithinLimits}
 use Rattle.semantics.specs.Term.{QueryTerm}
 use Rattle.expr_parse.specs.declared.error.ParseErr.{ParseErr}
 use Rattle.expr_parse.specs.declared.error.ParseErr.TheVariants as refusal
@@ -63,12 +63,12 @@ text_refused text e (inl memory) place at q a = let f : refusal.Memory ≡ refus
 text_refused text e (inr err) place at q a = let f : Err e ≡ Ok a.tokens = sym err ∙ a.are in cc f
 
 -- a parsed query is within the limits
-pub within_limits : (ts : List Lexeme) (q : QueryTerm) → IsQuery ts [] q → length ts ≤ 4096 → AreSmall ts → query_depth q ≤ 64 → sums_in q ≤ 16 → most_names q ≤ 32 → IsWithinLimits q
+pub within_limits : (ts : List Lexeme) (q : QueryTerm) → IsQuery ts [] q → length ts ≤ 4096 → AreSmall ts → query_depth q ≤ 64 → sums_in q ≤ 16 → most_names_in q ≤ 32 → IsWithinLimits q
 within_limits ts q a few small depth sums names = record {
   depth = depth;
   sums = sums;
   names = names;
-  nodes = query_has_few ts q 4096 a few;
+  nodes = omega (arith, query_has_few ts q 4096 a few);
   near = query_near a;
   small = query_has_small ts q a small;
 }

@@ -1,6 +1,7 @@
 -- The query of a text, or why it has none: the order of refusals, read from the last definition up.
 use Rattle.std.specs.Prelude.{ℕ, ◌≡◌, List, [], ◌∷◌, length, map, Option, Some, None, Result, Ok, Err, nat_lt, if◌then◌else◌}
-use Rattle.semantics.specs.Limits.{most_names, query_depth, sums_in}
+use Rattle.semantics.specs.Limits.{most_names_in, query_depth, sums_in}
+use Rattle.semantics.specs.Most.{most_depth, most_names, most_sums}
 use Rattle.semantics.specs.Term.{QueryTerm}
 use Rattle.expr_parse.specs.declared.error.ParseErr.{ParseErr}
 use Rattle.expr_parse.specs.declared.error.ParseErr.TheVariants as refusal
@@ -20,9 +21,9 @@ place_of text (t ∷ ts) left = if nat_lt (length ts) left then t.from else plac
 
 abbrev pub limited : QueryTerm → Result QueryTerm ParseErr
 limited q =
-    if nat_lt 64 (query_depth q) then Err refusal.TooDeep
-    else (if nat_lt 16 (sums_in q) then Err refusal.TooManySums
-    else (if nat_lt 32 (most_names q) then Err refusal.TooManyNames
+    if nat_lt most_depth (query_depth q) then Err refusal.TooDeep
+    else (if nat_lt most_sums (sums_in q) then Err refusal.TooManySums
+    else (if nat_lt most_names (most_names_in q) then Err refusal.TooManyNames
     else Ok q))
 
 -- where the pending list sticks, or the tree; where it doesn't stick there is always one

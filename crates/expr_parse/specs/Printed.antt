@@ -1,6 +1,7 @@
 -- What the canonical text of a query is, read again.
 use Rattle.std.specs.Prelude.{◌≡◌, ◌≤◌, List, ℕ, length, true, Ok}
 use Rattle.semantics.specs.Limits.{HasSmallNumbers, IsNearQuery, IsWithinLimits}
+use Rattle.semantics.specs.Most.{most_text}
 use Rattle.semantics.specs.Names.{is_name}
 use Rattle.semantics.specs.Term.{Term, base, constant, bare, plus, minus, times, shift, QueryTerm, number, sum, variance, covariance, add, sub, mul}
 use Rattle.expr_parse.specs.Canonical.{canonical_text}
@@ -27,11 +28,11 @@ IsNamedQuery (mul p q) = IsNamedQuery p × IsNamedQuery q
 
 -- the grammar gives a query for its canonical text, where that is not too long
 abbrev pub CanonicalIsText : Type 0
-CanonicalIsText = (q : QueryTerm) → IsNamedQuery q → IsNearQuery q → HasSmallNumbers q → length (canonical_text q) ≤ 4096 → IsTextOf (canonical_text q) q
+CanonicalIsText = (q : QueryTerm) → IsNamedQuery q → IsNearQuery q → HasSmallNumbers q → length (canonical_text q) ≤ most_text → IsTextOf (canonical_text q) q
 
 -- and it is parsed as that query, where the query is within its limits
 abbrev pub CanonicalIsParsed : Type 0
-CanonicalIsParsed = (q : QueryTerm) → IsNamedQuery q → IsWithinLimits q → length (canonical_text q) ≤ 4096 → parsed (canonical_text q) ≡ Ok q
+CanonicalIsParsed = (q : QueryTerm) → IsNamedQuery q → IsWithinLimits q → length (canonical_text q) ≤ most_text → parsed (canonical_text q) ≡ Ok q
 
 -- no text of a query is shorter than its canonical text
 abbrev pub CanonicalIsShortest : Type 0

@@ -1,5 +1,6 @@
 -- The tree of a list of tokens, read as the pending list goes, with what each entry came to.
 use Rattle.std.specs.Prelude.{ℕ, ◌^◌, ℤ, pos, neg_ℤ, List, [], ◌∷◌, Option, Some, None, option_map, nat_le, if◌then◌else◌}
+use Rattle.semantics.specs.Most.{most_shift}
 use Rattle.semantics.specs.Term as t
 use Rattle.semantics.specs.Term.{Term, Range, QueryTerm}
 use Rattle.expr_parse.specs.declared.lexeme.Lexeme.{Lexeme}
@@ -84,10 +85,10 @@ step Comma rest (ends ∷ es) = option_map (λ p. (Some (range_from p.0 p.1.0), 
 step Close rest (ends ∷ es) = option_map (λ p. (None, p)) (rest es)
 step (Number n) rest (whole ∷ es) = option_map (λ p. (pos n, p)) (rest es)
 step Minus rest (whole ∷ es) = option_map (λ p. (neg_ℤ (pos p.0), p.1)) (rest (number ∷ es))
-step (Number n) rest (place ∷ es) = if nat_le n (2 ^ 40) then option_map (λ p. (pos n, p)) (rest es) else None
+step (Number n) rest (place ∷ es) = if nat_le n most_shift then option_map (λ p. (pos n, p)) (rest es) else None
 step Minus rest (place ∷ es) = option_map (λ p. (neg_ℤ (pos p.0), p.1)) (rest (near ∷ es))
 step (Number n) rest (number ∷ es) = option_map (λ p. (n, p)) (rest es)
-step (Number n) rest (near ∷ es) = if nat_le n (2 ^ 40) then option_map (λ p. (n, p)) (rest es) else None
+step (Number n) rest (near ∷ es) = if nat_le n most_shift then option_map (λ p. (n, p)) (rest es) else None
 step Open rest (open_sign ∷ es) = rest es
 step Close rest (close_sign ∷ es) = rest es
 step Comma rest (comma_sign ∷ es) = rest es

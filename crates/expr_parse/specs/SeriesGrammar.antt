@@ -1,5 +1,6 @@
 -- The grammar of a series. `IsSeries ts rest t`: from the tokens ts a series is read that leaves the tokens rest, and its term is t.
-use Rattle.std.specs.Prelude.{ℕ, ◌≤◌, ◌^◌, ℤ, pos, neg_ℤ, unsigned_abs, List, ◌∷◌}
+use Rattle.std.specs.Prelude.{ℕ, ◌≤◌, ℤ, pos, neg_ℤ, unsigned_abs, List, ◌∷◌}
+use Rattle.semantics.specs.Most.{most_shift}
 use Rattle.semantics.specs.Term.{Term, Range, base, constant, bare, plus, minus, times, shift}
 use Rattle.expr_parse.specs.declared.lexeme.Lexeme.{Lexeme}
 use Rattle.expr_parse.specs.declared.lexeme.Lexeme.TheVariants.{Number, Named, Const, Shift, Open, Close, Comma, Plus, Minus, Times}
@@ -11,7 +12,7 @@ pub data IsWhole : List Lexeme → List Lexeme → ℤ → Type 0 where
 
 -- place = number | "-" number, of magnitude at most 2^40
 abbrev pub IsPlace : List Lexeme → List Lexeme → ℤ → Type 0
-IsPlace ts rest v = IsWhole ts rest v × (unsigned_abs v ≤ 2 ^ 40)
+IsPlace ts rest v = IsWhole ts rest v × (unsigned_abs v ≤ most_shift)
 
 -- the end of what has a range: "," place "," place ")"
 pub data IsRange : List Lexeme → List Lexeme → Range → Type 0 where

@@ -3,6 +3,7 @@ use Rattle.std.specs.Prelude.{ℕ, ◌+◌, ◌-◌, ◌<◌, ◌≤◌, zero, s
 use Rattle.std.specs.Char.{is_ascii_alphabetic, is_ascii_digit}
 use Rattle.std.specs.List.{prefix_len}
 use Rattle.num_text.specs.Cells.{is_blank}
+use Rattle.semantics.specs.Most.{most_text, most_word}
 use Rattle.semantics.specs.Names.{is_word_byte}
 use Rattle.semantics.specs.Numbers.{is_number}
 use Rattle.expr_parse.specs.declared.error.ParseErr.{ParseErr}
@@ -16,7 +17,7 @@ abbrev pub is_sign : ℕ → Bool
 is_sign c = c == 40 || c == 41 || c == 44 || c == 43 || c == 45 || c == 42
 
 abbrev pub word_of_length : ℕ → Option (Kind × ℕ)
-word_of_length n = if nat_le n 32 then Some (Word, n) else None
+word_of_length n = if nat_le n most_word then Some (Word, n) else None
 
 -- a number of magnitude at most 2^127-1
 abbrev pub number_of_length : List ℕ → ℕ → Option (Kind × ℕ)
@@ -56,7 +57,7 @@ at_place (Err place) = Err (refusal.At place)
 
 -- the tokens of a text that is not too long, or why it has none
 abbrev pub tokenized : List ℕ → Result (List Token) ParseErr
-tokenized text = if nat_lt 4096 (length text) then Err refusal.TooLong else at_place (tokens_of text)
+tokenized text = if nat_lt most_text (length text) then Err refusal.TooLong else at_place (tokens_of text)
 
 -- each token has bytes, and stands behind the one before it, from a place on and up to another
 abbrev pub AreInOrder : ℕ → List Token → ℕ → Type 0

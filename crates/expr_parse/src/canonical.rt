@@ -5,6 +5,7 @@ ghost use Rattle.std.specs.Fmt.{signed_decimal};
 ghost use Rattle.std.specs.Option.{option_map};
 ghost use Rattle.expr.specs.Terms.{query_term_of, range_of, term_of};
 ghost use Rattle.semantics.specs.Limits.{IsWithinLimits};
+ghost use Rattle.semantics.specs.Most.{most_text};
 ghost use Rattle.semantics.specs.Term.{constant, covariance, sum, variance};
 ghost use Rattle.expr_parse.specs.Parsed.{parsed};
 ghost use Rattle.expr_parse.specs.Printed.{CanonicalIsParsed, CanonicalIsShortest, CanonicalIsText, IsNamedQuery, IsNamedSeries, ParsedIsText};
@@ -252,7 +253,7 @@ pub fn print(alloc: Global, q: &Query) -> Result<Vec<u8>, Memory>
 
     // It is parsed as the query again, where it is not too long.
     ensures read_again { IfOk result (λ text.
-        IsWithinLimits (query_term_of q.now) → length text.items ≤ 4096 → parsed text.items ≡ Ok (query_term_of q.now)) }
+        IsWithinLimits (query_term_of q.now) → length text.items ≤ most_text → parsed text.items ≡ Ok (query_term_of q.now)) }
 {
     let mut text = Vec::new(alloc);
     write_query(alloc, &mut text, Level::OfSum, q)?;

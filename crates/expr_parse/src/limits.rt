@@ -1,8 +1,9 @@
 // The limits of a query.
 
 ghost use Rattle.std.specs.Prelude.{◌≡◌, ◌≤◌, ◌<◌, true, false, IfErr, IfOk, List, Err, Ok, min, length};
-ghost use Rattle.semantics.specs.Limits.{most_names, query_depth, series_depth, sums_in};
+ghost use Rattle.semantics.specs.Limits.{most_names_in, query_depth, series_depth, sums_in};
 ghost use Rattle.semantics.specs.Measures.{names_in};
+ghost use Rattle.semantics.specs.Most.{most_depth, most_names, most_sums};
 ghost use Rattle.expr.specs.Terms.{query_term_of, term_of};
 ghost use Rattle.expr_parse.specs.Nesting.{is_nested};
 ghost use Rattle.expr_parse.specs.Parsed.{limited};
@@ -73,8 +74,8 @@ fn names_in(t: &Series) -> u32
 }
 
 /// The most names that a sum has, or 33 where it has more.
-fn most_names(q: &Query) -> u32
-    ensures { result ≡ min (most_names (query_term_of q.now)) 33 }
+fn most_names_in(q: &Query) -> u32
+    ensures { result ≡ min (most_names_in (query_term_of q.now)) 33 }
 {
     match q {
         Query::Number(_) => 0,
@@ -82,7 +83,7 @@ fn most_names(q: &Query) -> u32
         Query::Var(t, _) => (2 * names_in(t)).min(33),
         Query::Cov(t, u, _) => (names_in(t) + names_in(u)).min(33),
         Query::Add(a, b) | Query::Sub(a, b) | Query::Mul(a, b) => {
-            most_names(a).max(most_names(b))
+            most_names_in(a).max(most_names_in(b))
         }
     }
 }
@@ -91,9 +92,9 @@ fn most_names(q: &Query) -> u32
 pub(crate) fn limited(q: Query) -> Result<Query, ParseErr>
     ensures same { IfOk result (λ r. query_term_of r ≡ query_term_of q) }
     ensures passed { IfOk result (λ r. limited (query_term_of q) ≡ Ok (query_term_of q)) }
-    ensures depth { IfOk result (λ r. query_depth (query_term_of q) ≤ 64) }
-    ensures sums { IfOk result (λ r. sums_in (query_term_of q) ≤ 16) }
-    ensures names { IfOk result (λ r. most_names (query_term_of q) ≤ 32) }
+    ensures depth { IfOk result (λ r. query_depth (query_term_of q) ≤ most_depth) }
+    ensures sums { IfOk result (λ r. sums_in (query_term_of q) ≤ most_sums) }
+    ensures names { IfOk result (λ r. most_names_in (query_term_of q) ≤ most_names) }
     ensures refused { IfErr result (λ e. limited (query_term_of q) ≡ Err e) }
 {
     if !is_within(&q, 64) {
@@ -102,7 +103,7 @@ pub(crate) fn limited(q: Query) -> Result<Query, ParseErr>
     if sums_in(&q) > 16 {
         return Err(ParseErr::TooManySums);
     }
-    if most_names(&q) > 32 {
+    if most_names_in(&q) > 32 {
         return Err(ParseErr::TooManyNames);
     }
     Ok(q)

@@ -1,6 +1,7 @@
 // Magnitudes of numbers in text.
 
-ghost use Rattle.std.specs.Prelude.{◌≡◌, ◌<◌, ◌^◌, pos, neg_ℤ};
+ghost use Rattle.std.specs.Prelude.{◌≡◌, ◌≤◌, pos, neg_ℤ};
+ghost use Rattle.semantics.specs.Most.{most_number};
 
 use std::marker::Model;
 
@@ -28,7 +29,7 @@ impl Model for Magnitude {
 
 impl Magnitude {
     pub(crate) fn of(value: u128) -> Magnitude
-        requires { value < 2 ^ 127 }
+        requires { value ≤ most_number }
         ensures { result ≡ value }
     {
         Magnitude { value }

@@ -1,6 +1,7 @@
 // The grammar of series.
 
-ghost use Rattle.std.specs.Prelude.{◌≡◌, ℕ, ◌<◌, ◌≤◌, ◌^◌, false, List, [], ◌∷◌, length, IfOk, IfErr, MatchOption, unsigned_abs};
+ghost use Rattle.std.specs.Prelude.{◌≡◌, ℕ, ◌<◌, ◌≤◌, false, List, [], ◌∷◌, length, IfOk, IfErr, MatchOption, unsigned_abs};
+ghost use Rattle.semantics.specs.Most.{most_shift};
 ghost use Rattle.semantics.specs.Term.{plus, minus, times, shift};
 ghost use Rattle.expr.specs.Terms.{range_of, term_of};
 ghost use Rattle.expr_parse.specs.SeriesGrammar.{IsFactor, IsPlace, IsProduct, IsRange, IsSeries, IsWhole};
@@ -49,7 +50,7 @@ const MOST: u64 = 1 << 40;
 
 /// The place that a number is, or none where it is too far.
 fn narrow(v: i128) -> Option<i64>
-    ensures { MatchOption result (2 ^ 40 < unsigned_abs v) (λ k. (k ≡ v) × (unsigned_abs v ≤ 2 ^ 40)) }
+    ensures { MatchOption result (most_shift < unsigned_abs v) (λ k. (k ≡ v) × (unsigned_abs v ≤ most_shift)) }
 {
     if v.unsigned_abs() <= u128::from(MOST) {
         Some(v as i64)

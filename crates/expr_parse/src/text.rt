@@ -1,7 +1,8 @@
 // The query of a text.
 
 ghost use Rattle.std.specs.Prelude.{◌≡◌, ◌↔◌, ◌≤◌, ◌⊎◌, ℕ, Err, IfErr, IfOk, List, MatchOption, None, Ok, Some, [], ◌∷◌, length, map};
-ghost use Rattle.semantics.specs.Limits.{IsWithinLimits};
+ghost use Rattle.semantics.specs.Limits.{nodes_in, IsWithinLimits};
+ghost use Rattle.semantics.specs.Most.{most_text};
 ghost use Rattle.semantics.specs.Term.{QueryTerm};
 ghost use Rattle.expr.specs.Terms.{query_term_of};
 ghost use Rattle.expr_parse.specs.Canonical.{canonical_text};
@@ -22,6 +23,9 @@ use crate::series::{Stop, next};
 use crate::token::{Scanned, Token, scan};
 use expr::Query;
 use std::alloc::Global;
+
+/// The most bytes of a text.
+const MOST_TEXT: usize = 4096;
 
 /// The query of all tokens.
 fn read_all(alloc: Global, ts: &[Lexeme]) -> Result<Query, Stop>
@@ -52,7 +56,7 @@ fn next_token(ts: &[Token]) -> Option<(&Token, &[Token])>
 
 /// The place at which so many tokens are left.
 fn place_of(text: &[u8], tokens: &[Token], left: usize) -> u32
-    requires { length text.now ≤ 4096 }
+    requires { length text.now ≤ most_text }
     ensures { result ≡ place_of text.now tokens.now left }
 {
     let mut rest = tokens;
@@ -72,12 +76,13 @@ fn by_lexemes(
     tokens: &[Token],
     said: &[Lexeme],
 ) -> Result<Query, ParseErr>
-    requires short { length text.now ≤ 4096 }
-    requires few { length said.now ≤ 4096 }
+    requires short { length text.now ≤ most_text }
+    requires few { length said.now ≤ most_text }
     requires small { AreSmall said.now }
     ensures answer { IfOk result (λ q. by_lexemes text.now tokens.now said.now ≡ Ok (query_term_of q)) }
     ensures grammar { IfOk result (λ q. IsQuery said.now [] (query_term_of q)) }
     ensures limits { IfOk result (λ q. IsWithinLimits (query_term_of q)) }
+    ensures nodes { IfOk result (λ q. nodes_in (query_term_of q) ≤ most_text) }
     ensures refused { IfErr result (λ e. (e ≡ ParseErr.Memory) ⊎ (by_lexemes text.now tokens.now said.now ≡ Err e)) }
     ensures outside { IfErr result (λ e. IsOutside e said.now) }
 {
@@ -99,12 +104,12 @@ fn scanned(alloc: Global, text: &[u8]) -> Result<Scanned, ParseErr>
     ensures tokens { IfOk result (λ s. tokenized text.now ≡ Ok s.tokens.items) }
     ensures lexemes { IfOk result (λ s. s.lexemes.items ≡ map (lexeme_of text.now) s.tokens.items) }
     ensures order { IfOk result (λ s. AreInOrder 0 s.tokens.items (length text.now)) }
-    ensures short { IfOk result (λ s. length text.now ≤ 4096) }
-    ensures few { IfOk result (λ s. length s.lexemes.items ≤ 4096) }
+    ensures short { IfOk result (λ s. length text.now ≤ most_text) }
+    ensures few { IfOk result (λ s. length s.lexemes.items ≤ most_text) }
     ensures small { IfOk result (λ s. AreSmall s.lexemes.items) }
     ensures refused { IfErr result (λ e. (e ≡ ParseErr.Memory) ⊎ (tokenized text.now ≡ Err e)) }
 {
-    if text.len() > 4096 {
+    if text.len() > MOST_TEXT {
         return Err(ParseErr::TooLong);
     }
     let found = scan(alloc, text)?;
@@ -129,6 +134,7 @@ pub fn parse(alloc: Global, text: &[u8]) -> Result<Query, ParseErr>
     ensures answer { IfOk result (λ q. parsed text.now ≡ Ok (query_term_of q)) }
     ensures refused { IfErr result (λ e. (e ≡ ParseErr.Memory) ⊎ (parsed text.now ≡ Err e)) }
     ensures limits { IfOk result (λ q. IsWithinLimits (query_term_of q)) }
+    ensures nodes { IfOk result (λ q. nodes_in (query_term_of q) ≤ most_text) }
 
     // The grammar gives this query for the text, and no other.
     ensures grammar { IfOk result (λ q. IsTextOf text.now (query_term_of q)) }

@@ -4,7 +4,7 @@ ghost use Rattle.std.specs.Prelude.{◌≡◌, ◌+◌, ◌<◌, ◌≤◌, ◌^
 ghost use Rattle.std.specs.Char.{is_ascii_digit};
 ghost use Rattle.std.specs.List.{prefix_len};
 ghost use Rattle.std.specs.Str.{bytes_eq};
-ghost use Rattle.num_text.specs.Cells.{is_blank};
+ghost use Rattle.semantics.specs.Most.{most_text};
 ghost use Rattle.semantics.specs.Names.{is_word_byte};
 ghost use Rattle.expr_parse.specs.Lexemes.{lexeme_of, lexeme_of_bytes, magnitude_in, reserved_lexeme, sign_lexeme, word_lexeme};
 ghost use Rattle.expr_parse.specs.Tokens.{front, is_sign, tokens_of, AreInOrder};
@@ -12,8 +12,8 @@ ghost use Rattle.expr_parse.specs.Tokens.{front, is_sign, tokens_of, AreInOrder}
 use crate::error::ParseErr;
 use crate::lexeme::Lexeme;
 use crate::magnitude::Magnitude;
-use expr::Name;
-use num_text::read_i128;
+use expr::{Name, is_word_byte};
+use num_text::{is_blank, read_i128};
 use std::alloc::Global;
 
 #[derive(Clone, Copy, Debug, PartialEq, Eq)]
@@ -29,18 +29,6 @@ pub struct Token {
     pub kind: Kind,
     pub from: u32,
     pub to: u32,
-}
-
-fn is_blank(byte: u8) -> bool
-    ensures { result ≡ is_blank byte }
-{
-    byte == b' ' || byte == b'\t'
-}
-
-fn is_word_byte(byte: u8) -> bool
-    ensures { result ≡ is_word_byte byte }
-{
-    byte.is_ascii_alphabetic() || byte.is_ascii_digit() || byte == b'_'
 }
 
 fn is_sign(byte: u8) -> bool
@@ -204,7 +192,7 @@ pub(crate) struct Scanned {
 }
 
 pub(crate) fn scan(alloc: Global, text: &[u8]) -> Result<Scanned, ParseErr>
-    requires { length text.now ≤ 4096 }
+    requires { length text.now ≤ most_text }
     ensures tokens { IfOk result (λ s. tokens_of text.now ≡ Ok s.tokens.items) }
     ensures lexemes { IfOk result (λ s. s.lexemes.items ≡ map (lexeme_of text.now) s.tokens.items) }
     ensures order { IfOk result (λ s. AreInOrder 0 s.tokens.items (length text.now)) }

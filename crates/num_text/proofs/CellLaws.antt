@@ -6,7 +6,8 @@ use Rattle.std.specs.List.{list_any, position_or_len, prefix_len, suffix_len}
 use Rattle.std.proofs.lemmas.Bool.Decides.{nat_tests}
 use Rattle.std.proofs.lemmas.List.{drop_all, length-reverse}
 use Rattle.std.proofs.lemmas.List.Sums.{prefix_len-le-length}
-use Rattle.num_text.specs.Cells.{before_blanks, behind_blanks, cell_of, decimal_of, fraction_of, greatest_reading, is_blank, is_decimal, is_missing, is_point, of_trimmed, scaled, value_of, whole_of, without_sign}
+use Rattle.semantics.specs.Most.{greatest_reading}
+use Rattle.num_text.specs.Cells.{before_blanks, behind_blanks, cell_of, decimal_of, fraction_of, is_blank, is_decimal, is_missing, is_point, of_trimmed, scaled, value_of, whole_of, without_sign}
 use Rattle.num_text.specs.declared.cells.Cell.TheVariants.{Value, Missing, Bad, TooLarge}
 use Rattle.semantics.specs.Numbers.{are_digits, has_minus, with_sign}
 

@@ -2,6 +2,7 @@
 use Rattle.std.specs.Prelude.{ℕ, ◌+◌, ◌-◌, ◌*◌, ◌/◌, ◌^◌, ◌&&◌, ◌||◌, ◌==◌, ◌++◌, Bool, not, nat_lt, if◌then◌else◌, List, drop, length, slice_index, take, codes}
 use Rattle.std.specs.Str.{bytes_eq}
 use Rattle.std.specs.List.{after_first, before_first, list_any, prefix_len, suffix_len}
+use Rattle.semantics.specs.Most.{greatest_reading}
 use Rattle.semantics.specs.Numbers.{are_digits, has_minus, number_of, with_sign}
 use Rattle.num_text.specs.declared.cells.Cell.{Cell}
 use Rattle.num_text.specs.declared.cells.Cell.TheVariants.{Value, Missing, Bad, TooLarge}
@@ -49,10 +50,6 @@ nearest n d = (2 * n + d) / (2 * d)
 -- the magnitude of a decimal times 10^scale, rounded: its digits are one whole number over a power of ten
 abbrev pub scaled : ℕ → List ℕ → List ℕ → ℕ
 scaled scale whole fraction = nearest (number_of (whole ++ fraction) * 10 ^ scale) (10 ^ length fraction)
-
--- the greatest magnitude of a reading
-abbrev pub greatest_reading : ℕ
-greatest_reading = 1000000000
 
 abbrev pub value_of : Bool → ℕ → Cell
 value_of negative n = if nat_lt greatest_reading n then TooLarge else Value (with_sign negative n)

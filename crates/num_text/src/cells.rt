@@ -1,9 +1,8 @@
-// A cell as a reading.
-
 ghost use Rattle.std.specs.Prelude.{◌≡◌, ◌≤◌, ◌+◌, ◌&&◌, if◌then◌else◌, IsTrue, length, min, nat_le, nat_lt, slice_index};
 ghost use Rattle.std.specs.Char.{is_ascii_digit};
 ghost use Rattle.std.specs.List.{list_all, position_or_len, prefix_len, suffix_len};
-ghost use Rattle.num_text.specs.Cells.{before_blanks, behind_blanks, cell_of, decimal_of, is_blank, is_missing, is_point, greatest_reading, scaled, value_of, without_sign};
+ghost use Rattle.semantics.specs.Most.{greatest_reading, most_scale};
+ghost use Rattle.num_text.specs.Cells.{before_blanks, behind_blanks, cell_of, decimal_of, is_blank, is_missing, is_point, scaled, value_of, without_sign};
 
 use crate::digits::{are_digits, number_on};
 
@@ -16,7 +15,8 @@ pub enum Cell {
     TooLarge,
 }
 
-fn is_blank(byte: u8) -> bool
+/// Whether a byte is a space or a tab.
+pub fn is_blank(byte: u8) -> bool
     ensures { result ≡ is_blank byte }
 {
     byte == b' ' || byte == b'\t'
@@ -69,7 +69,7 @@ fn is_point(byte: u8) -> bool
     byte == b'.'
 }
 
-// The place of the first point, or the length where there is none.
+/// The place of the first point, or the length where there is none.
 #[tactic(auto, using(crate::proofs::CellLaws::point_within))]
 fn point_in(text: &[u8]) -> usize
     ensures within { result ≤ length text.now }
@@ -80,7 +80,7 @@ fn point_in(text: &[u8]) -> usize
 
 const GREATEST_READING: u128 = 1_000_000_000;
 
-// One where the digit behind so many places rounds up.
+/// One where the digit behind so many places rounds up.
 fn carry(fraction: &[u8], places: usize) -> u128
     ensures { result ≡ (if nat_lt places (length fraction.now) && nat_le 53 (slice_index fraction.now places) then 1 else 0) }
 {
@@ -91,10 +91,10 @@ fn carry(fraction: &[u8], places: usize) -> u128
     }
 }
 
-// The magnitude of a decimal times 10^scale, rounded, or one above the greatest reading where it is greater.
+/// The magnitude of a decimal times 10^scale, rounded, or one above the greatest reading where it is greater.
 #[tactic(auto, using(crate::proofs::ScaleLaws::small_power))]
 fn scaled(scale: u8, whole: &[u8], fraction: &[u8]) -> u128
-    requires scale { scale ≤ 6 }
+    requires scale { scale ≤ most_scale }
     requires digits { IsTrue (list_all is_ascii_digit fraction.now) }
     ensures { result ≡ min (scaled scale whole.now fraction.now) (greatest_reading + 1) }
 {
@@ -106,7 +106,7 @@ fn scaled(scale: u8, whole: &[u8], fraction: &[u8]) -> u128
     (floor + carry(fraction, places)).min(limit)
 }
 
-// The reading of this magnitude.
+/// The reading of this magnitude.
 fn value_of(negative: bool, magnitude: u128) -> Cell
     ensures { result ≡ value_of negative magnitude }
 {
@@ -119,10 +119,10 @@ fn value_of(negative: bool, magnitude: u128) -> Cell
     }
 }
 
-// The reading of a decimal without its sign.
+/// The reading of a decimal without its sign.
 #[tactic(auto, using(crate::proofs::CellLaws::any_point, crate::proofs::CellLaws::value_of_capped))]
 fn decimal_of(scale: u8, negative: bool, text: &[u8]) -> Cell
-    requires { scale ≤ 6 }
+    requires { scale ≤ most_scale }
     ensures { result ≡ decimal_of scale negative text.now }
 {
     let point = point_in(text);
@@ -143,7 +143,7 @@ fn decimal_of(scale: u8, negative: bool, text: &[u8]) -> Cell
 /// Reads a cell: a decimal times 10^`scale`, rounded to a whole number, halves away from zero. Blanks at both ends don't
 /// count, and an empty cell, `NaN`, `nan`, `NA` and `null` are missing.
 pub fn read_scaled(text: &[u8], scale: u8) -> Cell
-    requires { scale ≤ 6 }
+    requires { scale ≤ most_scale }
     ensures { result ≡ cell_of scale text.now }
 {
     let text = trimmed(text);

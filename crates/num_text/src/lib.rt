@@ -4,15 +4,13 @@
 mod cells;
 mod digits;
 mod lists;
+mod memory;
 mod numbers;
 
-pub use cells::{Cell, read_scaled};
+pub use cells::{Cell, is_blank, read_scaled};
 pub use lists::{Readings, Text};
+pub use memory::Memory;
 pub use numbers::{read_i128, write_i128};
-
-/// Want of memory, where it is the only refusal.
-#[derive(Clone, Copy, Debug, PartialEq, Eq)]
-pub struct Memory;
 
 #[cfg(test)]
 mod tests;

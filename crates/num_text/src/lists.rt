@@ -1,5 +1,3 @@
-// Lists that are seen as lists.
-
 use std::marker::Model;
 
 /// A list of bytes.

@@ -1,8 +1,7 @@
-// Whole numbers in text.
-
 ghost use Rattle.std.specs.Prelude.{◌≡◌, ◌≤◌, ◌++◌, Some, OnOk, OnErr, unsigned_abs};
 ghost use Rattle.std.specs.Fmt.{signed_decimal};
-ghost use Rattle.semantics.specs.Numbers.{most_magnitude, number_in, without_minus};
+ghost use Rattle.semantics.specs.Most.{most_number};
+ghost use Rattle.semantics.specs.Numbers.{number_in, without_minus};
 
 use crate::Memory;
 use crate::digits::{are_digits, number_on};
@@ -46,13 +45,9 @@ pub fn write_i128(alloc: Global, into: &mut Vec<u8>, v: i128) -> Result<(), Memo
     ensures unchanged { OnErr result (into.new.items ≡ into.old.items) }
 
     // What is written of a number is read again.
-    ensures read_again { unsigned_abs v ≤ most_magnitude → number_in (signed_decimal v) ≡ Some v }
+    ensures read_again { unsigned_abs v ≤ most_number → number_in (signed_decimal v) ≡ Some v }
 {
-    let Ok(text) = format!(in alloc; "{v}") else {
-        return Err(Memory);
-    };
-    if into.extend_from_slice(text.as_bytes()).is_err() {
-        return Err(Memory);
-    }
+    let text = format!(in alloc; "{v}")?;
+    into.extend_from_slice(text.as_bytes())?;
     Ok(())
 }

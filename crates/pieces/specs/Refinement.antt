@@ -1,5 +1,6 @@
 -- The pieces of a range, over spans and the occurrences that read them.
 use Rattle.std.specs.Prelude.{◌≡◌, ◌≢◌, ℕ, ◌≤◌, ◌<◌, ◌+◌, ◌^◌, ℤ, pos, ◌+ℤ◌, ◌-ℤ◌, ◌≤ℤ◌, ◌<ℤ◌, List, [], ◌∷◌, length, slice_index, slice_index_or}
+use Rattle.semantics.specs.Most.{most_readings}
 use Rattle.pieces.specs.declared.spans.Span.{Span}
 use Rattle.pieces.specs.declared.spans.Occ.{Occ}
 use Rattle.pieces.specs.View.{PieceView}
@@ -38,7 +39,7 @@ pub record IsWithinSpans (spans : List Span) (occ : Occ) : Type 0 where
   pub ordered : occ.from ≤ occ.to
   pub within : occ.to ≤ length spans
   pub touch : (s : ℕ) → occ.from ≤ s → s + 1 < occ.to → end_of (span_at spans s) ≡ (span_at spans (s + 1)).start
-  pub small : (s : ℕ) → occ.from ≤ s → s < occ.to → end_of (span_at spans s) ≤ 2 ^ 20
+  pub small : (s : ℕ) → occ.from ≤ s → s < occ.to → end_of (span_at spans s) ≤ most_readings
 
 -- so are those of all occurrences
 abbrev pub AllWithin : List Span → List Occ → Type 0

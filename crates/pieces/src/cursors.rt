@@ -1,4 +1,5 @@
 ghost use Rattle.std.specs.Prelude.{◌≡◌, ℕ, ◌≤◌, ◌<◌, ◌^◌, pos, ◌+ℤ◌, ◌-ℤ◌, ◌≤ℤ◌, ◌<ℤ◌, length, IfOk, map};
+ghost use Rattle.semantics.specs.Most.{most_readings};
 ghost use Rattle.pieces.specs.Refinement.{end_of, span_at, first_of, IsReadAt, IsWithinSpans, AllWithin, AllRead};
 ghost use Rattle.pieces.specs.Cursors.{AreBehind, IsStepped};
 
@@ -55,9 +56,9 @@ fn stay_at(spans: &[Span], occ: Occ, cursor: u32, at: i64) -> Stay
 /// The place that a shifted series is read at.
 fn place_of(at: i64, shift: i64) -> u32
     requires low { pos 0 ≤ℤ (at -ℤ shift) }
-    requires high { (at -ℤ shift) <ℤ pos (2 ^ 20) }
+    requires high { (at -ℤ shift) <ℤ pos most_readings }
     ensures value { pos result ≡ (at -ℤ shift) }
-    ensures bound { result < 2 ^ 20 }
+    ensures bound { result < most_readings }
 {
     (at - shift) as u32
 }

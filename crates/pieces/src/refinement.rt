@@ -36,8 +36,6 @@ impl Model for Pieces {
 }
 
 /// Cuts the positions from `l` to before `r` into pieces on which each occurrence stays in one segment.
-///
-/// The time goes with the number of spans and with that of pieces times occurrences, and not with that of positions.
 pub fn refine(alloc: Global, spans: &[Span], occs: &[Occ], l: i64, r: i64) -> Result<Pieces, Memory>
     requires ordered { l ≤ℤ r }
     requires within { AllWithin spans.now occs.now }
@@ -46,9 +44,7 @@ pub fn refine(alloc: Global, spans: &[Span], occs: &[Occ], l: i64, r: i64) -> Re
     ensures each { IfOk result (λ pieces. (i : ℤ) → l ≤ℤ i → i <ℤ r → IsInOne pieces i) }
     ensures one { IfOk result (λ pieces. occs.now ≡ [] → l <ℤ r → length pieces ≡ 1) }
 {
-    let Ok(items) = sweep(alloc, spans, occs, l, r) else {
-        return Err(Memory);
-    };
+    let items = sweep(alloc, spans, occs, l, r)?;
     Ok(Pieces { items })
 }
 

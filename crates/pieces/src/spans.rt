@@ -1,4 +1,5 @@
 ghost use Rattle.std.specs.Prelude.{◌≡◌, ◌≤◌, ◌<◌, ◌^◌, length};
+ghost use Rattle.semantics.specs.Most.{most_readings};
 ghost use Rattle.pieces.specs.Refinement.{end_of, span_at};
 
 /// The positions of a segment.
@@ -20,7 +21,7 @@ pub struct Occ {
 /// The place behind a span.
 pub(crate) fn end(spans: &[Span], s: u32) -> u32
     requires place { s < length spans.now }
-    requires small { end_of (span_at spans.now s) ≤ 2 ^ 20 }
+    requires small { end_of (span_at spans.now s) ≤ most_readings }
     ensures { result ≡ end_of (span_at spans.now s) }
 {
     let span = spans[s as usize];

@@ -32,28 +32,29 @@ fn shifted_pieces(alloc: Global) -> Result<Pieces, Memory>
 }
 
 #[test]
-fn pieces_of_a_shift(rt: HostRuntime) {
-    let Ok(pieces) = shifted_pieces(rt.alloc()) else {
-        return;
-    };
+fn pieces_of_a_shift(rt: HostRuntime) -> Result<(), Memory> {
+    let pieces = shifted_pieces(rt.alloc())?;
     assert_eq!(rt; pieces.count(), 3);
     for (k, start, len, first, second) in [(0, 1, 15, 0, 0), (1, 16, 1, 1, 0), (2, 17, 15, 1, 1)] {
         assert!(rt; k < pieces.count());
         assert_eq!(rt; (pieces.start(k), pieces.len(k)), (start, len));
         assert_eq!(rt; (pieces.seg(k, 0), pieces.seg(k, 1)), (first, second));
     }
+    Ok(())
 }
 
 #[test]
-fn no_occurrences(rt: HostRuntime) {
-    for (l, r, count) in [(3, 8, 1), (-5, 0, 1), (7, 7, 0)] {
+fn no_occurrences(rt: HostRuntime) -> Result<(), Memory> {
+    for (l, r, len) in [(3, 8, Some(5)), (-5, 0, Some(5)), (7, 7, None)] {
         assert!(rt; l <= r);
-        let Ok(pieces) = refine(rt.alloc(), &[], &[], l, r) else {
-            return;
-        };
-        assert_eq!(rt; pieces.count(), count);
-        if pieces.count() == 1 {
-            assert_eq!(rt; (pieces.start(0), pieces.len(0)), (l, r.abs_diff(l)));
+        let pieces = refine(rt.alloc(), &[], &[], l, r)?;
+        match len {
+            None => assert_eq!(rt; pieces.count(), 0),
+            Some(len) => {
+                assert_eq!(rt; pieces.count(), 1);
+                assert_eq!(rt; (pieces.start(0), pieces.len(0)), (l, len));
+            }
         }
     }
+    Ok(())
 }

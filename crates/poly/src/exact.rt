@@ -1,5 +1,3 @@
-//! Signed arithmetic on numbers that are known to be small enough, with its exact result.
-
 ghost use Rattle.std.specs.Prelude.{◌≡◌, ◌+◌, ◌*◌, ◌^◌, ◌≤◌, pos, ◌+ℤ◌, ◌-ℤ◌, ◌*ℤ◌, unsigned_abs};
 
 /// The sum of two numbers.

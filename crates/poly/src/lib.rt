@@ -8,6 +8,7 @@
 mod exact;
 
 ghost use Rattle.std.specs.Prelude.{◌≡◌, ℕ, ◌+◌, ◌-◌, ◌*◌, ◌^◌, ◌<◌, ◌≤◌, max, ℤ, pos, ◌+ℤ◌, ◌-ℤ◌, ◌*ℤ◌, length, List, unsigned_abs, slice_index_or};
+ghost use Rattle.semantics.specs.Most.{range_limit};
 ghost use Rattle.poly.specs.Raised.{IsRaised};
 ghost use Rattle.poly.specs.Terms.{value_at, norm_at, size_of, degree_of};
 
@@ -46,7 +47,7 @@ impl Poly {
 
     /// The value at position `i`, by nested multiplication.
     pub fn eval(&self, i: u64) -> i128
-        requires { norm_at self.now.c (max 1 i) ≤ 2 ^ 125 }
+        requires { norm_at self.now.c (max 1 i) ≤ range_limit }
         ensures value { result ≡ value_at self.now.c (pos i) }
         ensures bound { unsigned_abs result ≤ norm_at self.now.c i }
     {
@@ -57,11 +58,10 @@ impl Poly {
         sum
     }
 
-    /// The sum.
     pub fn add(&self, other: &Poly, m: u64) -> Poly
         requires place { 1 ≤ m }
-        requires left { norm_at self.now.c m ≤ 2 ^ 125 }
-        requires right { norm_at other.now.c m ≤ 2 ^ 125 }
+        requires left { norm_at self.now.c m ≤ range_limit }
+        requires right { norm_at other.now.c m ≤ range_limit }
         ensures value { (x : ℤ) → value_at result.c x ≡ value_at self.now.c x +ℤ value_at other.now.c x }
         ensures norm { (n : ℕ) → norm_at result.c n ≤ norm_at self.now.c n + norm_at other.now.c n }
         ensures size { size_of result.c ≤ max (size_of self.now.c) (size_of other.now.c) }
@@ -73,11 +73,10 @@ impl Poly {
         Poly { c }
     }
 
-    /// The difference.
     pub fn sub(&self, other: &Poly, m: u64) -> Poly
         requires place { 1 ≤ m }
-        requires left { norm_at self.now.c m ≤ 2 ^ 125 }
-        requires right { norm_at other.now.c m ≤ 2 ^ 125 }
+        requires left { norm_at self.now.c m ≤ range_limit }
+        requires right { norm_at other.now.c m ≤ range_limit }
         ensures value { (x : ℤ) → value_at result.c x ≡ value_at self.now.c x -ℤ value_at other.now.c x }
         ensures norm { (n : ℕ) → norm_at result.c n ≤ norm_at self.now.c n + norm_at other.now.c n }
         ensures size { size_of result.c ≤ max (size_of self.now.c) (size_of other.now.c) }
@@ -88,7 +87,7 @@ impl Poly {
     /// The `k`-fold.
     pub fn scale(&self, k: i128, m: u64) -> Poly
         requires place { 1 ≤ m }
-        requires small { unsigned_abs k * norm_at self.now.c m ≤ 2 ^ 125 }
+        requires small { unsigned_abs k * norm_at self.now.c m ≤ range_limit }
         ensures value { (x : ℤ) → value_at result.c x ≡ k *ℤ value_at self.now.c x }
         ensures norm { (n : ℕ) → norm_at result.c n ≡ unsigned_abs k * norm_at self.now.c n }
         ensures size { size_of result.c ≤ size_of self.now.c }
@@ -104,7 +103,7 @@ impl Poly {
     /// The product, from the last coefficient of the left factor down.
     pub fn mul(&self, other: &Poly, m: u64) -> Poly
         requires place { 1 ≤ m }
-        requires small { norm_at self.now.c m * norm_at other.now.c m ≤ 2 ^ 125 }
+        requires small { norm_at self.now.c m * norm_at other.now.c m ≤ range_limit }
         requires degree { degree_of self.now.c + degree_of other.now.c < N_TERMS }
         ensures value { (x : ℤ) → value_at result.c x ≡ value_at self.now.c x *ℤ value_at other.now.c x }
         ensures norm { (n : ℕ) → norm_at result.c n ≤ norm_at self.now.c n * norm_at other.now.c n }
@@ -134,7 +133,7 @@ impl Poly {
     pub fn recentre(&self, offset: u64, m: u64) -> Poly
         requires place { 1 ≤ m }
         requires degree { degree_of self.now.c ≤ 2 }
-        requires small { norm_at self.now.c (offset + m) ≤ 2 ^ 125 }
+        requires small { norm_at self.now.c (offset + m) ≤ range_limit }
         ensures value { (x : ℤ) → value_at result.c x ≡ value_at self.now.c (x +ℤ pos offset) }
         ensures norm { norm_at result.c m ≤ norm_at self.now.c (offset + m) }
         ensures size { size_of result.c ≤ 3 }

@@ -1,8 +1,8 @@
-//! Sums of powers and of polynomials over the positions below a bound, by closed forms: the time does not depend on
-//! the bound.
+//! Sums of powers and of polynomials over the positions below a bound, by closed forms.
 #![tactic(auto)]
 
 ghost use Rattle.std.specs.Prelude.{◌≡◌, ℕ, suc, ◌+◌, ◌-◌, ◌*◌, ◌^◌, ◌<◌, ◌≤◌, pos, ◌*ℤ◌, unsigned_abs};
+ghost use Rattle.semantics.specs.Most.{most_readings, most_shift, range_limit};
 ghost use Rattle.poly.specs.Terms.{norm_at, degree_of};
 ghost use Rattle.power_sum.specs.Totals.{power_total, total_of};
 
@@ -11,8 +11,8 @@ use poly::{N_TERMS, Poly, plus, times};
 /// The sum of `i ^ k` over `0 <= i < m`, where `0 ^ 0` is 1.
 pub fn power(k: u32, m: u64) -> i128
     requires order { k ≤ 4 }
-    requires few { m ≤ 2 ^ 41 }
-    requires fewer { 1 ≤ k → m ≤ 2 ^ 20 }
+    requires few { m ≤ 2 * most_shift }
+    requires fewer { 1 ≤ k → m ≤ most_readings }
     ensures { result ≡ pos (power_total k m) }
 {
     closed(k, u128::from(m)) as i128
@@ -21,8 +21,8 @@ pub fn power(k: u32, m: u64) -> i128
 /// The same, in whole numbers from 0 up.
 fn closed(k: u32, m: u128) -> u128
     requires order { k ≤ 4 }
-    requires few { m ≤ 2 ^ 41 }
-    requires fewer { 1 ≤ k → m ≤ 2 ^ 20 }
+    requires few { m ≤ 2 * most_shift }
+    requires fewer { 1 ≤ k → m ≤ most_readings }
     ensures value { result ≡ power_total k m }
     ensures bound { result < 2 ^ 120 }
 {
@@ -39,7 +39,7 @@ fn closed(k: u32, m: u128) -> u128
 /// The sum of the numbers up to `n`.
 #[tactic(auto, using(crate::proofs::ClosedForms::closed_1, crate::proofs::ClosedForms::pow_below))]
 fn numbers(n: u128) -> u128
-    requires { n < 2 ^ 20 }
+    requires { n < most_readings }
     ensures value { result ≡ power_total 1 (suc n) }
     ensures bound { result < 2 ^ 120 }
 {
@@ -49,7 +49,7 @@ fn numbers(n: u128) -> u128
 /// The sum of the squares up to `n`.
 #[tactic(auto, using(crate::proofs::ClosedForms::closed_2, crate::proofs::ClosedForms::pow_below))]
 fn squares(n: u128) -> u128
-    requires { n < 2 ^ 20 }
+    requires { n < most_readings }
     ensures value { result ≡ power_total 2 (suc n) }
     ensures bound { result < 2 ^ 120 }
 {
@@ -59,7 +59,7 @@ fn squares(n: u128) -> u128
 /// The sum of the cubes up to `n`.
 #[tactic(auto, using(crate::proofs::ClosedForms::closed_3, crate::proofs::ClosedForms::pow_below))]
 fn cubes(n: u128) -> u128
-    requires { n < 2 ^ 20 }
+    requires { n < most_readings }
     ensures value { result ≡ power_total 3 (suc n) }
     ensures bound { result < 2 ^ 120 }
 {
@@ -69,7 +69,7 @@ fn cubes(n: u128) -> u128
 /// The sum of the fourth powers up to `n`.
 #[tactic(auto, using(crate::proofs::ClosedForms::closed_4, crate::proofs::ClosedForms::pow_below, crate::proofs::ClosedForms::pow_above))]
 fn fourth_powers(n: u128) -> u128
-    requires { n < 2 ^ 20 }
+    requires { n < most_readings }
     ensures value { result ≡ power_total 4 (suc n) }
     ensures bound { result < 2 ^ 120 }
 {
@@ -78,9 +78,9 @@ fn fourth_powers(n: u128) -> u128
 
 /// The sum of `p(i)` over `0 <= i < m`.
 pub fn sum_over(p: &Poly, m: u64) -> i128
-    requires few { m ≤ 2 ^ 41 }
-    requires fewer { 1 ≤ degree_of p.now.c → m ≤ 2 ^ 20 }
-    requires small { m * norm_at p.now.c m ≤ 2 ^ 125 }
+    requires few { m ≤ 2 * most_shift }
+    requires fewer { 1 ≤ degree_of p.now.c → m ≤ most_readings }
+    requires small { m * norm_at p.now.c m ≤ range_limit }
     ensures value { result ≡ total_of p.now.c m }
     ensures bound { unsigned_abs result ≤ m * norm_at p.now.c m }
 {
@@ -95,9 +95,9 @@ pub fn sum_over(p: &Poly, m: u64) -> i128
 /// The sum of `c * i ^ k`. No power is summed where `c` is 0, since `m` may then be too great for it.
 fn term(c: i128, k: u32, m: u64) -> i128
     requires order { k < N_TERMS }
-    requires few { 0 < unsigned_abs c → m ≤ 2 ^ 41 }
-    requires fewer { 0 < unsigned_abs c → 1 ≤ k → m ≤ 2 ^ 20 }
-    requires small { unsigned_abs c * power_total k m ≤ 2 ^ 125 }
+    requires few { 0 < unsigned_abs c → m ≤ 2 * most_shift }
+    requires fewer { 0 < unsigned_abs c → 1 ≤ k → m ≤ most_readings }
+    requires small { unsigned_abs c * power_total k m ≤ range_limit }
     ensures value { result ≡ c *ℤ pos (power_total k m) }
     ensures bound { unsigned_abs result ≡ unsigned_abs c * power_total k m }
 {

@@ -60,7 +60,7 @@ isnt_summed (inr h) = let e = h.1 in cc
 isnt_store : IsOfStore replace_fault → ⊥
 isnt_store h = let e = h.2 in cc
 
-isnt_admission : (e : admission.Refusal) → replace_fault ≡ query_refusal e → ⊥
+isnt_admission : (e : admission.NotAdmitted) → replace_fault ≡ query_refusal e → ⊥
 isnt_admission (admission.unknown name) h = cc
 isnt_admission (admission.high_rank sum) h = cc
 isnt_admission (admission.outside sum lo hi) h = cc

@@ -1,6 +1,6 @@
 -- Queries over numbers alone, which have no sum: neither readings nor facts of series enter.
 use Rattle.std.specs.Prelude.{ℕ, ℤ, [], Option, Bool, true, false, ◌&&◌}
-use Rattle.semantics.specs.Admission.{Refusal, bound_of, first_refusal, nodes_of, range_rule}
+use Rattle.semantics.specs.Admission.{NotAdmitted, bound_of, first_refusal, nodes_of, range_rule}
 use Rattle.semantics.specs.Term.{QueryTerm, number, sum, variance, covariance, add, sub, mul}
 use Rattle.semantics.specs.Value.{query_value}
 
@@ -22,5 +22,5 @@ abbrev pub number_bound : QueryTerm → ℕ
 number_bound q = bound_of [] q
 
 -- the first node that is too great, where nodes are numbered from k on
-abbrev pub number_refusal : ℕ → QueryTerm → Option Refusal
+abbrev pub number_refusal : ℕ → QueryTerm → Option NotAdmitted
 number_refusal k q = first_refusal (range_rule []) k (nodes_of q)

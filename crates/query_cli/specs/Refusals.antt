@@ -46,7 +46,7 @@ status_of (query_rank sum) = status.BadQuery
 status_of (range node) = status.Range
 
 -- why a query is not admitted
-abbrev pub query_refusal : admission.Refusal → Refusal
+abbrev pub query_refusal : admission.NotAdmitted → Refusal
 query_refusal (admission.unknown name) = query_unknown name
 query_refusal (admission.high_rank sum) = query_rank sum
 query_refusal (admission.outside sum lo hi) = domain sum lo hi
@@ -91,7 +91,7 @@ IsOfText r = (e : ParseErr) × (e ≢ text.Memory) × (r ≡ bad_query e)
 
 -- admitting a query
 abbrev pub IsOfAdmission : Refusal → Type 0
-IsOfAdmission r = (e : admission.Refusal) × (r ≡ query_refusal e)
+IsOfAdmission r = (e : admission.NotAdmitted) × (r ≡ query_refusal e)
 
 -- reading a store and admitting a query over it
 abbrev pub IsOfAsked : Refusal → Type 0

@@ -2,7 +2,7 @@
 
 ghost use Rattle.std.specs.Prelude.{◌≡◌, ◌≤◌, length, IfOk, IfErr, Ok};
 ghost use Rattle.segment.specs.Measure.{AreReadings};
-ghost use Rattle.series_csv.specs.Column.{most_readings};
+ghost use Rattle.semantics.specs.Most.{most_readings};
 ghost use Rattle.query_cli.specs.Refusals.{IsOfColumn};
 ghost use Rattle.query_cli.specs.Steps.{column_in, most_csv};
 ghost use Rattle.query_cli.specs.Stops.{IfRefused, IsStepRefusal};

@@ -3,7 +3,7 @@
 ghost use Rattle.std.specs.Prelude.{◌≡◌, ◌≤◌, length, Some, None, Ok, OnOk, OnErr, IfOk, IfErr, string_bytes};
 ghost use Rattle.segment.specs.Measure.{AreReadings};
 ghost use Rattle.semantics.specs.Faults.{Rose};
-ghost use Rattle.series_csv.specs.Column.{most_readings};
+ghost use Rattle.semantics.specs.Most.{most_readings};
 ghost use Rattle.store_file.specs.Added.{HasRoom, IsAddable, with_series};
 ghost use Rattle.store_file.specs.StoreValue.{store_image};
 ghost use Rattle.store_file.specs.Stored.{store_value};

@@ -6,7 +6,7 @@ ghost use Rattle.semantics.specs.Readings.{plain_sum};
 ghost use Rattle.seg_tree.specs.Trees.{IsTreeOf, value_of};
 ghost use Rattle.segment.specs.Measure.{AreReadings};
 ghost use Rattle.segment.specs.Tree.{fitted_series};
-ghost use Rattle.series_csv.specs.Column.{most_readings};
+ghost use Rattle.semantics.specs.Most.{most_readings};
 ghost use Rattle.query_cli.specs.Answers.{IsSumLine, end_of, first_of, is_range_of, summed_in};
 ghost use Rattle.query_cli.specs.Causes.{IsCause, IsDone};
 ghost use Rattle.query_cli.specs.Commands.{once};

@@ -2,7 +2,7 @@
 
 ghost use Rattle.std.specs.Prelude.{◌≡◌, ◌≤◌, length, Ok, OnOk, IfOk, IfErr};
 ghost use Rattle.segment.specs.Measure.{AreReadings};
-ghost use Rattle.series_csv.specs.Column.{most_readings};
+ghost use Rattle.semantics.specs.Most.{most_readings};
 ghost use Rattle.store_file.specs.Added.{HasRoom, IsAddable, with_series};
 ghost use Rattle.store_file.specs.StoreValue.{IsStoreValue, store_image};
 ghost use Rattle.store_file.specs.Stored.{store_value};

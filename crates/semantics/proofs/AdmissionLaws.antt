@@ -2,7 +2,7 @@
 use Rattle.std.proofs.Common.{ℕ, suc, ◌≡◌, ◌+◌, ◌*◌, ◌^◌, ◌≤◌, max, false, nat_lt, List, [], ◌∷◌, ◌++◌, length, Option, Some, None, refl, sym, ap, ◌∙◌, arith, add-zero, length-append}
 use Rattle.std.proofs.lemmas.Bool.Decides.{nat_tests}
 use Rattle.std.specs.Option.{option_or}
-use Rattle.semantics.specs.Admission.{Fact, Refusal, sums_of, nodes_of, first_refusal, rank_rule, greatest_at, extent_of, is_too_great, HasLowRanks}
+use Rattle.semantics.specs.Admission.{Fact, NotAdmitted, sums_of, nodes_of, first_refusal, rank_rule, greatest_at, extent_of, is_too_great, HasLowRanks}
 use Rattle.semantics.specs.Limits.{sums_in, nodes_in}
 use Rattle.semantics.specs.Measures.{units_of, some_part, is_great_over}
 use Rattle.semantics.specs.Term.{Term, base, constant, bare, plus, minus, times, shift, Range, QueryTerm, number, sum, variance, covariance, add, sub, mul}
@@ -12,7 +12,7 @@ option_or_assoc None b c = refl
 option_or_assoc (Some x) b c = refl
 
 -- the second list is numbered behind the first
-pub first_refusal-append : {A : Type 0} (rule : ℕ → A → Option Refusal) (k : ℕ) (xs ys : List A) → first_refusal rule k (xs ++ ys) ≡ option_or (first_refusal rule k xs) (first_refusal rule (k + length xs) ys)
+pub first_refusal-append : {A : Type 0} (rule : ℕ → A → Option NotAdmitted) (k : ℕ) (xs ys : List A) → first_refusal rule k (xs ++ ys) ≡ option_or (first_refusal rule k xs) (first_refusal rule (k + length xs) ys)
 first_refusal-append rule k [] ys = ap (λ n. first_refusal rule n ys) (sym (add-zero k))
 first_refusal-append rule k (x ∷ xs) ys =
     let counted : k + 1 + length xs ≡ k + suc (length xs) = omega arith in
@@ -21,7 +21,7 @@ first_refusal-append rule k (x ∷ xs) ys =
     ∙ ap (λ n. option_or (option_or (rule k x) (first_refusal rule (k + 1) xs)) (first_refusal rule n ys)) counted
 
 -- a node is numbered behind its parts
-pub first_refusal-node : {A : Type 0} (rule : ℕ → A → Option Refusal) (k : ℕ) (xs ys : List A) (x : A) → first_refusal rule k (xs ++ ys ++ x ∷ []) ≡ option_or (option_or (first_refusal rule k xs) (first_refusal rule (k + length xs) ys)) (first_refusal rule (k + length xs + length ys) (x ∷ []))
+pub first_refusal-node : {A : Type 0} (rule : ℕ → A → Option NotAdmitted) (k : ℕ) (xs ys : List A) (x : A) → first_refusal rule k (xs ++ ys ++ x ∷ []) ≡ option_or (option_or (first_refusal rule k xs) (first_refusal rule (k + length xs) ys)) (first_refusal rule (k + length xs + length ys) (x ∷ []))
 first_refusal-node rule k xs ys x =
     let counted : k + length (xs ++ ys) ≡ k + length xs + length ys = omega (arith, length-append xs ys) in
     first_refusal-append rule k (xs ++ ys) (x ∷ [])
@@ -46,12 +46,12 @@ length-nodes_of (add p q) = simp length-append (omega (arith, length-nodes_of p,
 length-nodes_of (sub p q) = simp length-append (omega (arith, length-nodes_of p, length-nodes_of q))
 length-nodes_of (mul p q) = simp length-append (omega (arith, length-nodes_of p, length-nodes_of q))
 
-pub first_of_two : {A : Type 0} (rule : ℕ → A → Option Refusal) (k : ℕ) (xs ys : List A) → first_refusal rule k (xs ++ ys) ≡ None → first_refusal rule k xs ≡ None
+pub first_of_two : {A : Type 0} (rule : ℕ → A → Option NotAdmitted) (k : ℕ) (xs ys : List A) → first_refusal rule k (xs ++ ys) ≡ None → first_refusal rule k xs ≡ None
 first_of_two rule k xs ys e =
     let split = sym (first_refusal-append rule k xs ys) ∙ e in
     elim (first_refusal rule k xs) as (λ o. option_or o (first_refusal rule (k + length xs) ys) ≡ None → o ≡ None) [ None ↦ λ h. refl | Some r ↦ λ h. h ] split
 
-pub second_of_two : {A : Type 0} (rule : ℕ → A → Option Refusal) (k : ℕ) (xs ys : List A) → first_refusal rule k (xs ++ ys) ≡ None → first_refusal rule (k + length xs) ys ≡ None
+pub second_of_two : {A : Type 0} (rule : ℕ → A → Option NotAdmitted) (k : ℕ) (xs ys : List A) → first_refusal rule k (xs ++ ys) ≡ None → first_refusal rule (k + length xs) ys ≡ None
 second_of_two rule k xs ys e =
     let split = sym (first_refusal-append rule k xs ys) ∙ e in
     rw (first_of_two rule k xs ys e) at split

@@ -8,7 +8,7 @@ use Rattle.std.proofs.lemmas.List.Folds.{find-append}
 use Rattle.std.specs.Int.{int_max}
 use Rattle.std.specs.Option.{option_or, option_map}
 use Rattle.std.specs.Prelude.{int_lt, int_le}
-use Rattle.semantics.specs.Admission.{Fact, Refusal, is_unknown, count_at, greatest_at, series_names, query_names, sums_of, nodes_of, is_inside, is_outside, extent_of, bound_of, is_too_great, unknown, outside, too_great, rank_rule, domain_rule, range_rule, first_refusal, refusal_of}
+use Rattle.semantics.specs.Admission.{Fact, NotAdmitted, is_unknown, count_at, greatest_at, series_names, query_names, sums_of, nodes_of, is_inside, is_outside, extent_of, bound_of, is_too_great, unknown, outside, too_great, rank_rule, domain_rule, range_rule, first_refusal, refusal_of}
 use Rattle.semantics.specs.Admitted.{IsKnown, IsInDomain, IsAdmittedSum, IsAdmitted}
 use Rattle.semantics.specs.Measures.{some_part, is_great_over, InRange}
 use Rattle.semantics.specs.Term.{Term, base, constant, bare, plus, minus, times, shift, Range, QueryTerm, number, sum, variance, covariance, add, sub, mul}
@@ -58,7 +58,7 @@ unmapped None e = refl
 unmapped (Some name) e = absurd (cc)
 
 -- a test that refuses nothing did not pass
-untested : (b : Bool) (r : Refusal) → cond b (Some r) None ≡ None → b ≡ false
+untested : (b : Bool) (r : NotAdmitted) → cond b (Some r) None ≡ None → b ≡ false
 untested true r e = absurd (cc)
 untested false r e = refl
 

@@ -7,7 +7,8 @@ use Rattle.std.proofs.lemmas.Bool.Decides.{nat_tests}
 use Rattle.std.proofs.lemmas.Int.{ints}
 use Rattle.std.proofs.lemmas.Fmt.{decimal_is_IsNumeral_wide}
 use Rattle.std.proofs.lemmas.Str.Parse.{FoldsDigits, IsDigitsTest, IsNumeralModel, digits_value_short, numerals_by_fold, not_in_digits}
-use Rattle.semantics.specs.Numbers.{are_digits, has_minus, most_magnitude, number_in, number_of, number_on}
+use Rattle.semantics.specs.Most.{most_number}
+use Rattle.semantics.specs.Numbers.{are_digits, has_minus, number_in, number_of, number_on}
 
 all_digits : IsDigitsTest (λ text. list_all is_ascii_digit text ≡ true)
 all_digits = search rules
@@ -38,14 +39,14 @@ has_minus-decimal n h =
     grind (arith, nat_tests, other)
 
 -- what is written of a number is read again
-pub number_in-signed_decimal : (z : ℤ) → unsigned_abs z ≤ most_magnitude → number_in (signed_decimal z) ≡ Some z
+pub number_in-signed_decimal : (z : ℤ) → unsigned_abs z ≤ most_number → number_in (signed_decimal z) ≡ Some z
 number_in-signed_decimal (pos n) h =
     let small : n < 10 ^ 64 = omega arith in
-    let within : leb n most_magnitude ≡ true = grind (arith, nat_tests) in
+    let within : leb n most_number ≡ true = grind (arith, nat_tests) in
     rw (has_minus-decimal n small, are_digits-decimal n small, (decimal_digits n small).2, within) refl
 number_in-signed_decimal (negsuc n) h =
     let small : suc n < 10 ^ 64 = omega (arith, ints) in
-    let within : leb (suc n) most_magnitude ≡ true = grind (arith, nat_tests) in
+    let within : leb (suc n) most_number ≡ true = grind (arith, nat_tests) in
     rw (are_digits-decimal (suc n) small, (decimal_digits (suc n) small).2, within) refl
 
 -- digits spell a number with no more digits

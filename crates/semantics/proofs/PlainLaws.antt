@@ -1,7 +1,7 @@
 -- The plain query: it has no variance, comes to the same value and stays within the limits.
 use Rattle.std.proofs.Common.{◌≡◌, ℕ, ℤ, ◌+ℤ◌, ◌-ℤ◌, ◌*ℤ◌, List, refl, arith}
 use Rattle.std.proofs.lemmas.Int.{ints}
-use Rattle.semantics.specs.Limits.{query_depth, sums_in, nodes_in, most_names, IsNear, IsNearQuery, IsSmall, HasSmallNumbers, IsWithinLimits}
+use Rattle.semantics.specs.Limits.{query_depth, sums_in, nodes_in, most_names_in, IsNear, IsNearQuery, IsSmall, HasSmallNumbers, IsWithinLimits}
 use Rattle.semantics.specs.Plain.{plain, IsPlain}
 use Rattle.semantics.specs.Term.{QueryTerm, number, sum, variance, covariance, add, sub, mul}
 use Rattle.semantics.specs.Value.{query_value}
@@ -51,14 +51,14 @@ nodes_in-plain (add p q) = omega (arith, nodes_in-plain p, nodes_in-plain q)
 nodes_in-plain (sub p q) = omega (arith, nodes_in-plain p, nodes_in-plain q)
 nodes_in-plain (mul p q) = omega (arith, nodes_in-plain p, nodes_in-plain q)
 
-most_names-plain : (q : QueryTerm) → most_names (plain q) ≡ most_names q
-most_names-plain (number v) = refl
-most_names-plain (sum t range) = refl
-most_names-plain (variance t range) = omega arith
-most_names-plain (covariance t u range) = omega arith
-most_names-plain (add p q) = omega (arith, most_names-plain p, most_names-plain q)
-most_names-plain (sub p q) = omega (arith, most_names-plain p, most_names-plain q)
-most_names-plain (mul p q) = omega (arith, most_names-plain p, most_names-plain q)
+most_names_in-plain : (q : QueryTerm) → most_names_in (plain q) ≡ most_names_in q
+most_names_in-plain (number v) = refl
+most_names_in-plain (sum t range) = refl
+most_names_in-plain (variance t range) = omega arith
+most_names_in-plain (covariance t u range) = omega arith
+most_names_in-plain (add p q) = omega (arith, most_names_in-plain p, most_names_in-plain q)
+most_names_in-plain (sub p q) = omega (arith, most_names_in-plain p, most_names_in-plain q)
+most_names_in-plain (mul p q) = omega (arith, most_names_in-plain p, most_names_in-plain q)
 
 IsNearQuery-plain : (q : QueryTerm) → IsNearQuery q → IsNearQuery (plain q)
 IsNearQuery-plain (number v) h = tt
@@ -85,7 +85,7 @@ pub IsWithinLimits-plain : (q : QueryTerm) → IsWithinLimits q → IsWithinLimi
 IsWithinLimits-plain q h = record {
   depth = omega (arith, h.depth, query_depth-plain q);
   sums = omega (arith, h.sums, sums_in-plain q);
-  names = omega (arith, h.names, most_names-plain q);
+  names = omega (arith, h.names, most_names_in-plain q);
   nodes = omega (arith, h.nodes, nodes_in-plain q);
   near = IsNearQuery-plain q h.near;
   small = HasSmallNumbers-plain q h.near h.small;

@@ -1,8 +1,9 @@
 -- The admission of a plain query over what is known of the series: the first of four rules that refuses it, and why.
-use Rattle.std.specs.Prelude.{ℕ, ◌+◌, ◌*◌, ◌^◌, ◌≤◌, max, ℤ, unsigned_abs, List, [], ◌∷◌, ◌++◌, Bool, false, ◌&&◌, ◌||◌, not, Option, Some, None, is_some, find, nat_lt, int_lt, int_le, if◌then◌else◌}
+use Rattle.std.specs.Prelude.{ℕ, ◌+◌, ◌*◌, ◌≤◌, max, ℤ, unsigned_abs, List, [], ◌∷◌, ◌++◌, Bool, false, ◌&&◌, ◌||◌, not, Option, Some, None, is_some, find, nat_lt, int_lt, int_le, if◌then◌else◌}
 use Rattle.std.specs.Int.{int_max}
 use Rattle.std.specs.Option.{option_map, option_map_or, option_or}
 use Rattle.semantics.specs.Measures.{rank_of, units_of, some_part, is_great_over}
+use Rattle.semantics.specs.Most.{most_rank, range_limit}
 use Rattle.semantics.specs.Names.{same_name}
 use Rattle.semantics.specs.Readings.{positions_in}
 use Rattle.semantics.specs.Term.{Term, base, constant, bare, plus, minus, times, shift, Range, QueryTerm, number, sum, variance, covariance, add, sub, mul}
@@ -120,52 +121,52 @@ bound_of facts (add p q) = bound_of facts p + bound_of facts q
 bound_of facts (sub p q) = bound_of facts p + bound_of facts q
 bound_of facts (mul p q) = bound_of facts p * bound_of facts q
 
--- whether a node is a sum with a part that is too great, or has a bound above 2^125
+-- whether a node is a sum with a part that is too great, or has a bound that is too great
 abbrev pub is_too_great : List Fact → QueryTerm → Bool
 is_too_great facts (sum t range) =
-    some_part (is_great_over (greatest_at facts) (extent_of facts t range)) t || nat_lt (2 ^ 125) (bound_of facts (sum t range))
-is_too_great facts q = nat_lt (2 ^ 125) (bound_of facts q)
+    some_part (is_great_over (greatest_at facts) (extent_of facts t range)) t || nat_lt range_limit (bound_of facts (sum t range))
+is_too_great facts q = nat_lt range_limit (bound_of facts q)
 
 -- ---- the rules
 
 -- why a query is refused: a name that is unknown, the number of a sum whose rank is too high, the number of a sum that leaves
 -- its domain and the ends of that, or the number of a node that is too great
-pub data Refusal : Type 0 where
-  unknown : List ℕ → Refusal
-  high_rank : ℕ → Refusal
-  outside : ℕ → ℤ → ℤ → Refusal
-  too_great : ℕ → Refusal
+pub data NotAdmitted : Type 0 where
+  unknown : List ℕ → NotAdmitted
+  high_rank : ℕ → NotAdmitted
+  outside : ℕ → ℤ → ℤ → NotAdmitted
+  too_great : ℕ → NotAdmitted
 
-abbrev pub rank_rule : ℕ → SumTerm → Option Refusal
-rank_rule k s = if nat_lt 2 (rank_of s.series) then Some (high_rank k) else None
+abbrev pub rank_rule : ℕ → SumTerm → Option NotAdmitted
+rank_rule k s = if nat_lt most_rank (rank_of s.series) then Some (high_rank k) else None
 
 -- an empty domain is told as its left end twice
-abbrev pub domain_rule : List Fact → ℕ → SumTerm → Option Refusal
+abbrev pub domain_rule : List Fact → ℕ → SumTerm → Option NotAdmitted
 domain_rule facts k s =
     let domain = domain_of (count_at facts) s.series in
     if is_outside s.range domain then Some (outside k domain.left (int_max domain.left domain.right)) else None
 
-abbrev pub range_rule : List Fact → ℕ → QueryTerm → Option Refusal
+abbrev pub range_rule : List Fact → ℕ → QueryTerm → Option NotAdmitted
 range_rule facts k q = if is_too_great facts q then Some (too_great k) else None
 
 -- the first refusal by a rule, where the items are numbered from k on
-abbrev pub first_refusal : {A : Type 0} → (ℕ → A → Option Refusal) → ℕ → List A → Option Refusal
+abbrev pub first_refusal : {A : Type 0} → (ℕ → A → Option NotAdmitted) → ℕ → List A → Option NotAdmitted
 first_refusal rule k [] = None
 first_refusal rule k (x ∷ xs) = option_or (rule k x) (first_refusal rule (k + 1) xs)
 
--- each sum of a plain query has a rank of at most 2
+-- each sum of a plain query has a rank that is admitted
 abbrev pub HasLowRanks : QueryTerm → Type 0
 HasLowRanks (number v) = Unit {0}
-HasLowRanks (sum t range) = rank_of t ≤ 2
+HasLowRanks (sum t range) = rank_of t ≤ most_rank
 HasLowRanks (variance t range) = Unit {0}
 HasLowRanks (covariance t u range) = Unit {0}
 HasLowRanks (add p q) = HasLowRanks p × HasLowRanks q
 HasLowRanks (sub p q) = HasLowRanks p × HasLowRanks q
 HasLowRanks (mul p q) = HasLowRanks p × HasLowRanks q
 
--- why a plain query is refused, None where it is admitted: the first name that is unknown, else the first sum whose rank is above
--- 2, else the first sum outside of its domain, else the first node that is too great
-abbrev pub refusal_of : List Fact → QueryTerm → Option Refusal
+-- why a plain query is refused, None where it is admitted: the first name that is unknown, else the first sum whose rank is too
+-- high, else the first sum outside of its domain, else the first node that is too great
+abbrev pub refusal_of : List Fact → QueryTerm → Option NotAdmitted
 refusal_of facts q =
     option_or (option_map unknown (find (is_unknown facts) (query_names q)))
     (option_or (first_refusal rank_rule 1 (sums_of q))

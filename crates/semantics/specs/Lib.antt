@@ -4,10 +4,12 @@ pub mod Faults
 pub mod Files
 pub mod Limits
 pub mod Measures
+pub mod Most
 pub mod Names
-pub mod Plain
 pub mod Numbers
+pub mod Plain
 pub mod Quotients
+pub mod Reads
 pub mod Readings
 pub mod Sums
 pub mod Term

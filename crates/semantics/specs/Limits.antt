@@ -1,6 +1,7 @@
--- The limits of a query.
-use Rattle.std.specs.Prelude.{ℕ, ◌+◌, ◌*◌, ◌-◌, ◌^◌, ◌≤◌, max, ℤ, unsigned_abs, Option, Some, None}
+-- What a query keeps within the limits.
+use Rattle.std.specs.Prelude.{ℕ, ◌+◌, ◌*◌, ◌≤◌, max, ℤ, unsigned_abs, Option, Some, None}
 use Rattle.semantics.specs.Measures.{names_in}
+use Rattle.semantics.specs.Most.{most_depth, most_sums, most_names, most_nodes, most_shift, most_number}
 use Rattle.semantics.specs.Term.{Term, base, constant, bare, plus, minus, times, shift, Range, QueryTerm, number, sum, variance, covariance, add, sub, mul}
 
 -- ---- depth: a leaf has 1, and each step up is one more
@@ -46,19 +47,19 @@ nodes_in (sub p q) = nodes_in p + nodes_in q + 1
 nodes_in (mul p q) = nodes_in p + nodes_in q + 1
 
 -- the most names that a sum has, each time counted
-abbrev pub most_names : QueryTerm → ℕ
-most_names (number v) = 0
-most_names (sum t range) = names_in t
-most_names (variance t range) = 2 * names_in t
-most_names (covariance t u range) = names_in t + names_in u
-most_names (add p q) = max (most_names p) (most_names q)
-most_names (sub p q) = max (most_names p) (most_names q)
-most_names (mul p q) = max (most_names p) (most_names q)
+abbrev pub most_names_in : QueryTerm → ℕ
+most_names_in (number v) = 0
+most_names_in (sum t range) = names_in t
+most_names_in (variance t range) = 2 * names_in t
+most_names_in (covariance t u range) = names_in t + names_in u
+most_names_in (add p q) = max (most_names_in p) (most_names_in q)
+most_names_in (sub p q) = max (most_names_in p) (most_names_in q)
+most_names_in (mul p q) = max (most_names_in p) (most_names_in q)
 
 -- ---- magnitudes
 
 abbrev pub IsNear : ℤ → Type 0
-IsNear i = unsigned_abs i ≤ 2 ^ 40
+IsNear i = unsigned_abs i ≤ most_shift
 
 -- all positions and shifts are near
 abbrev pub IsNearSeries : Term → Type 0
@@ -84,7 +85,7 @@ IsNearQuery (sub p q) = IsNearQuery p × IsNearQuery q
 IsNearQuery (mul p q) = IsNearQuery p × IsNearQuery q
 
 abbrev pub IsSmall : ℤ → Type 0
-IsSmall v = unsigned_abs v ≤ 2 ^ 127 - 1
+IsSmall v = unsigned_abs v ≤ most_number
 
 -- all constants are small
 abbrev pub HasSmallConstants : Term → Type 0
@@ -106,11 +107,11 @@ HasSmallNumbers (add p q) = HasSmallNumbers p × HasSmallNumbers q
 HasSmallNumbers (sub p q) = HasSmallNumbers p × HasSmallNumbers q
 HasSmallNumbers (mul p q) = HasSmallNumbers p × HasSmallNumbers q
 
--- ---- all limits; a text of 4096 bytes has no more nodes
+-- ---- all limits
 pub record IsWithinLimits (q : QueryTerm) : Type 0 where
-  pub depth : query_depth q ≤ 64
-  pub sums : sums_in q ≤ 16
-  pub names : most_names q ≤ 32
-  pub nodes : nodes_in q ≤ 4096
+  pub depth : query_depth q ≤ most_depth
+  pub sums : sums_in q ≤ most_sums
+  pub names : most_names_in q ≤ most_names
+  pub nodes : nodes_in q ≤ most_nodes
   pub near : IsNearQuery q
   pub small : HasSmallNumbers q

@@ -1,5 +1,6 @@
 -- How large a series can be.
 use Rattle.std.specs.Prelude.{ℕ, ◌+◌, ◌*◌, ◌^◌, ◌≤◌, max, unsigned_abs, List, Bool, ◌||◌, nat_lt}
+use Rattle.semantics.specs.Most.{range_limit, range_limit_at}
 use Rattle.semantics.specs.Term.{Term, base, constant, bare, plus, minus, times, shift}
 
 -- how many names a series has, each time counted
@@ -46,17 +47,17 @@ some_part p (minus u v) = some_part p u || some_part p v || p (minus u v)
 some_part p (times u v) = some_part p u || some_part p v || p (times u v)
 some_part p (shift u k) = some_part p u || p (shift u k)
 
--- whether the units are above 2^125
+-- whether the units are too great
 abbrev pub has_great_units : (List ℕ → ℕ) → Term → Bool
-has_great_units D t = nat_lt (2 ^ 125) (units_of D t)
+has_great_units D t = nat_lt range_limit (units_of D t)
 
--- whether the units, 16384-fold for each of the rank, come to more than 2^125 over n positions
+-- whether the units, 16384-fold for each of the rank, come to too much over n positions
 abbrev pub is_great_over : (List ℕ → ℕ) → ℕ → Term → Bool
-is_great_over D n t = nat_lt (2 ^ 125) (16384 ^ rank_of t * n * units_of D t)
+is_great_over D n t = nat_lt (range_limit_at (rank_of t)) (16384 ^ rank_of t * n * units_of D t)
 
--- the units, 16384-fold for each of the rank, come to at most 2^125 over n positions
+-- the units, 16384-fold for each of the rank, are within the limit over n positions
 abbrev pub FitsOver : (List ℕ → ℕ) → ℕ → Term → Type 0
-FitsOver D n t = 16384 ^ rank_of t * n * units_of D t ≤ 2 ^ 125
+FitsOver D n t = 16384 ^ rank_of t * n * units_of D t ≤ range_limit_at (rank_of t)
 
 -- so do those of the series and of each part of it
 abbrev pub InRange : (List ℕ → ℕ) → ℕ → Term → Type 0

@@ -3,6 +3,7 @@ use Rattle.std.specs.Prelude.{ℕ, Bool, false, ◌&&◌, ◌||◌, not, List, [
 use Rattle.std.specs.Char.{is_ascii_alphabetic, is_ascii_digit}
 use Rattle.std.specs.List.{list_all, list_any}
 use Rattle.std.specs.Str.{bytes_eq}
+use Rattle.semantics.specs.Most.{most_word}
 
 -- whether two names have the same bytes
 abbrev pub same_name : List ℕ → List ℕ → Bool
@@ -16,9 +17,9 @@ abbrev pub begins_with_letter : List ℕ → Bool
 begins_with_letter [] = false
 begins_with_letter (c ∷ cs) = is_ascii_alphabetic c
 
--- a letter, and then letters, digits and `_`, at most 32 bytes in all
+-- a letter, and then letters, digits and `_`, no more than a word may have
 abbrev pub is_word : List ℕ → Bool
-is_word bytes = begins_with_letter bytes && list_all is_word_byte bytes && nat_le (length bytes) 32
+is_word bytes = begins_with_letter bytes && list_all is_word_byte bytes && nat_le (length bytes) most_word
 
 -- the words that a query has a use for
 abbrev pub reserved_words : List (List ℕ)

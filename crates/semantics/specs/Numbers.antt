@@ -1,7 +1,8 @@
 -- Whole numbers in text.
-use Rattle.std.specs.Prelude.{ℕ, ◌+◌, ◌-◌, ◌*◌, ◌^◌, ◌&&◌, ◌==◌, Bool, nat_lt, nat_le, if◌then◌else◌, List, drop, length, fold, slice_index, Option, Some, None, ℤ, pos, neg_ℤ}
+use Rattle.std.specs.Prelude.{ℕ, ◌+◌, ◌-◌, ◌*◌, ◌&&◌, ◌==◌, Bool, nat_lt, nat_le, if◌then◌else◌, List, drop, length, fold, slice_index, Option, Some, None, ℤ, pos, neg_ℤ}
 use Rattle.std.specs.Char.{is_ascii_digit}
 use Rattle.std.specs.List.{list_all}
+use Rattle.semantics.specs.Most.{most_number}
 
 -- one or more digits
 abbrev pub are_digits : List ℕ → Bool
@@ -26,13 +27,9 @@ without_minus text = if has_minus text then drop 1 text else text
 abbrev pub with_sign : Bool → ℕ → ℤ
 with_sign negative n = if negative then neg_ℤ (pos n) else pos n
 
--- the greatest magnitude of a number in text
-abbrev pub most_magnitude : ℕ
-most_magnitude = 2 ^ 127 - 1
-
 -- an optional `-`, and one or more digits of a number that is not too large
 abbrev pub is_number : List ℕ → Bool
-is_number text = are_digits (without_minus text) && nat_le (number_of (without_minus text)) most_magnitude
+is_number text = are_digits (without_minus text) && nat_le (number_of (without_minus text)) most_number
 
 -- the number that a text is
 abbrev pub number_in : List ℕ → Option ℤ

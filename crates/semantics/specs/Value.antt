@@ -1,6 +1,7 @@
 -- What series and queries come to, by plain sums over readings.
-use Rattle.std.specs.Prelude.{ℕ, ◌^◌, ℤ, pos, neg_ℤ, ◌+ℤ◌, ◌-ℤ◌, ◌*ℤ◌, List, length, Option, Some, None}
+use Rattle.std.specs.Prelude.{ℕ, ℤ, pos, neg_ℤ, ◌+ℤ◌, ◌-ℤ◌, ◌*ℤ◌, List, length, Option, Some, None}
 use Rattle.std.specs.Int.{int_max, int_min}
+use Rattle.semantics.specs.Most.{most_shift}
 use Rattle.semantics.specs.Readings.{reading_at, positions_in}
 use Rattle.semantics.specs.Sums.{total_below}
 use Rattle.semantics.specs.Term.{Term, base, constant, bare, plus, minus, times, shift, Range, QueryTerm, number, sum, variance, covariance, add, sub, mul}
@@ -29,7 +30,7 @@ moved a k = record { left = a.left +ℤ k; right = a.right +ℤ k }
 abbrev pub domain_of : (List ℕ → ℕ) → Term → Range
 domain_of N (base name) = record { left = pos 0; right = pos (N name) }
 domain_of N (constant v a b) = record { left = a; right = b }
-domain_of N (bare v) = record { left = neg_ℤ (pos (2 ^ 40)); right = pos (2 ^ 40) }
+domain_of N (bare v) = record { left = neg_ℤ (pos most_shift); right = pos most_shift }
 domain_of N (plus u v) = common (domain_of N u) (domain_of N v)
 domain_of N (minus u v) = common (domain_of N u) (domain_of N v)
 domain_of N (times u v) = common (domain_of N u) (domain_of N v)

@@ -2,7 +2,8 @@
 use Rattle.std.proofs.Common.{◌≡◌, ℕ, suc, ◌+◌, List, [], ◌∷◌, ◌++◌, Option, Some, Result, Ok, Err, ℤ, refl, sym, ap, arith, add-one, append_assoc, Bool, true, false, cond, ltb, ◌≤◌}
 use Rattle.std.proofs.lemmas.Bool.Decides.{nat_tests}
 use Rattle.csv.specs.Records.{field_at}
-use Rattle.series_csv.specs.Column.{joined, by_field, most_readings, of_records, place_from, reading_of, readings_from}
+use Rattle.semantics.specs.Most.{most_readings}
+use Rattle.series_csv.specs.Column.{joined, by_field, of_records, place_from, reading_of, readings_from}
 use Rattle.series_csv.specs.declared.fault.CsvErr.{CsvErr}
 use Rattle.series_csv.specs.declared.fault.CsvErr.TheVariants as errors
 

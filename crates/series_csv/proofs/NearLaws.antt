@@ -7,12 +7,13 @@ use Rattle.num_text.specs.declared.cells.Cell.{Cell}
 use Rattle.num_text.specs.declared.cells.Cell.TheVariants.{Value, Missing, Bad, TooLarge}
 use Rattle.num_text.proofs.CellLaws.{cell_of-near}
 use Rattle.semantics.specs.Readings.{reading}
-use Rattle.series_csv.specs.Column.{by_cell, by_field, column_of, followed, joined, most_readings, of_records, place_from, reading_of, readings_from, records_of, under_header}
+use Rattle.semantics.specs.Most.{greatest_reading, most_readings}
+use Rattle.series_csv.specs.Column.{by_cell, by_field, column_of, followed, joined, of_records, place_from, reading_of, readings_from, records_of, under_header}
 use Rattle.series_csv.specs.declared.fault.CsvErr.{CsvErr}
 use Rattle.series_csv.specs.declared.fault.CsvErr.TheVariants as errors
 
 abbrev Near : ℤ → Type 0
-Near x = unsigned_abs x ≤ 10 ^ 9
+Near x = unsigned_abs x ≤ greatest_reading
 
 abbrev AllNear : List ℤ → Type 0
 AllNear xs = (i : ℕ) → Near (reading xs i)

@@ -6,6 +6,7 @@ use Rattle.csv.specs.Records.{field_at}
 use Rattle.num_text.specs.Cells.{cell_of}
 use Rattle.num_text.specs.declared.cells.Cell.{Cell}
 use Rattle.num_text.specs.declared.cells.Cell.TheVariants.{Value, Missing, Bad, TooLarge}
+use Rattle.semantics.specs.Most.{most_readings}
 use Rattle.series_csv.specs.declared.fault.CsvErr.{CsvErr}
 use Rattle.series_csv.specs.declared.fault.CsvErr.TheVariants as errors
 
@@ -33,10 +34,6 @@ by_cell k last TooLarge = Err (errors.TooLarge k)
 abbrev pub by_field : ℕ → ℕ → Option ℤ → Option (List ℕ) → Result ℤ CsvErr
 by_field scale k last None = Err (errors.Short k)
 by_field scale k last (Some text) = by_cell k last (cell_of scale text)
-
--- the most readings of a series
-abbrev pub most_readings : ℕ
-most_readings = 1048576
 
 -- the reading of record k, behind the last reading
 abbrev pub reading_of : ℕ → ℕ → ℕ → Option ℤ → List (List ℕ) → Result ℤ CsvErr

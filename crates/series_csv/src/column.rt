@@ -1,11 +1,10 @@
-// The readings of a column.
-
 ghost use Rattle.std.specs.Prelude.{◌≡◌, ◌≤◌, ◌^◌, ◌⊎◌, ℕ, IfOk, IfErr, length, unsigned_abs};
 ghost use Rattle.std.specs.Option.{ForSome};
 ghost use Rattle.csv.specs.Reading.{strip_bom};
 ghost use Rattle.csv.specs.Records.{fields_of};
 ghost use Rattle.semantics.specs.Readings.{reading};
-ghost use Rattle.series_csv.specs.Column.{column_of, most_readings, of_records, place_from, reading_of, readings_from};
+ghost use Rattle.semantics.specs.Most.{greatest_reading, most_readings, most_scale};
+ghost use Rattle.series_csv.specs.Column.{column_of, of_records, place_from, reading_of, readings_from};
 ghost use Rattle.series_csv.specs.Left.{IsPlain, rows_left};
 
 use crate::fault::CsvErr;
@@ -16,7 +15,7 @@ use std::alloc::Global;
 
 const MOST_READINGS: u32 = 1_048_576;
 
-// The bytes behind a byte order mark.
+/// The bytes behind a byte order mark.
 #[tactic(auto, using(crate::proofs::TextLaws::strip_by_bytes))]
 fn without_mark(bytes: &[u8]) -> &[u8]
     ensures { result.now ≡ strip_bom bytes.now }
@@ -28,7 +27,7 @@ fn without_mark(bytes: &[u8]) -> &[u8]
     }
 }
 
-// The place of the column in a header.
+/// The place of the column in a header.
 fn place_of(header: &ByteRecord, column: &[u8]) -> Option<usize>
     ensures { result ≡ place_from 0 (fields_of header.now) column.now }
 {
@@ -45,7 +44,7 @@ fn place_of(header: &ByteRecord, column: &[u8]) -> Option<usize>
     None
 }
 
-// The reading of a record, behind the last reading.
+/// The reading of a record, behind the last reading.
 fn read_row(
     row: &ByteRecord,
     place: usize,
@@ -53,7 +52,7 @@ fn read_row(
     number: u32,
     last: Option<i32>,
 ) -> Result<i32, CsvErr>
-    requires { scale ≤ 6 }
+    requires { scale ≤ most_scale }
     ensures { result ≡ reading_of place scale number last (fields_of row.now) }
 {
     if number > MOST_READINGS {
@@ -70,7 +69,7 @@ fn read_row(
     }
 }
 
-// The readings of the records that are left.
+/// The readings of the records that are left.
 fn read_rows(
     alloc: Global,
     rdr: &mut Reader<&[u8]>,
@@ -79,7 +78,7 @@ fn read_rows(
     before: Option<i32>,
 ) -> Result<Vec<i32>, CsvErr>
     requires plain { IsPlain rdr.old }
-    requires scale { scale ≤ 6 }
+    requires scale { scale ≤ most_scale }
     ensures few { IfOk result (λ v. length v.items ≤ most_readings) }
     ensures ok { IfOk result (λ v. readings_from place scale 1 before (rows_left rdr.old) ≡ Ok v.items) }
     ensures refused { IfErr result (λ e. (e ≡ CsvErr.Memory) ⊎ (readings_from place scale 1 before (rows_left rdr.old) ≡ Err e)) }
@@ -93,16 +92,14 @@ fn read_rows(
             return Ok(readings);
         }
         let reading = read_row(&row, place, scale, number, last)?;
-        if readings.push(reading).is_err() {
-            return Err(CsvErr::Memory);
-        }
+        readings.push(reading)?;
         last = Some(reading);
     }
     // The record after the most readings was refused.
     unreachable!()
 }
 
-// The readings of the records that are left, behind a header.
+/// The readings of the records that are left, behind a header.
 fn read_under_header(
     alloc: Global,
     rdr: &mut Reader<&[u8]>,
@@ -111,7 +108,7 @@ fn read_under_header(
     before: Option<i32>,
 ) -> Result<Vec<i32>, CsvErr>
     requires plain { IsPlain rdr.old }
-    requires scale { scale ≤ 6 }
+    requires scale { scale ≤ most_scale }
     ensures few { IfOk result (λ v. length v.items ≤ most_readings) }
     ensures ok { IfOk result (λ v. of_records (rows_left rdr.old) column.now scale before ≡ Ok v.items) }
     ensures refused { IfErr result (λ e. (e ≡ CsvErr.Memory) ⊎ (of_records (rows_left rdr.old) column.now scale before ≡ Err e)) }
@@ -138,10 +135,10 @@ pub fn read_column(
     before: Option<i32>,
 ) -> Result<Vec<i32>, CsvErr>
     requires size { length bytes.now ≤ 2 ^ 26 }
-    requires scale { scale ≤ 6 }
-    requires before { ForSome before (λ x. unsigned_abs x ≤ 10 ^ 9) }
-    ensures few { IfOk result (λ v. length v.items ≤ 2 ^ 20) }
-    ensures near { IfOk result (λ v. (i : ℕ) → unsigned_abs (reading v.items i) ≤ 10 ^ 9) }
+    requires scale { scale ≤ most_scale }
+    requires before { ForSome before (λ x. unsigned_abs x ≤ greatest_reading) }
+    ensures few { IfOk result (λ v. length v.items ≤ most_readings) }
+    ensures near { IfOk result (λ v. (i : ℕ) → unsigned_abs (reading v.items i) ≤ greatest_reading) }
 
     // The answer is that of the definition, but for want of memory.
     ensures ok { IfOk result (λ v. column_of bytes.now column.now scale before ≡ Ok v.items) }

@@ -50,15 +50,16 @@ fn columns(rt: HostRuntime) -> Result<(), Fail> {
 #[test]
 fn the_longest(rt: HostRuntime) -> Result<(), Fail> {
     let alloc = rt.alloc();
-    let mut text = Vec::from_slice(alloc, b"v\n")?;
+    let mut text = Vec::from_slice(alloc, b"t,v\n")?;
     for _ in 0..1_048_576 {
-        text.extend_from_slice(b"1\n")?;
+        text.extend_from_slice(b",1\n")?;
     }
     assert!(rt; text.len() <= 67_108_864);
     match read_column(alloc, &text, b"v", 0, None) {
         Ok(readings) => assert_eq!(rt; readings.len(), 1_048_576),
         Err(_) => assert!(rt; false),
     }
+    // One record more, which is too short as well.
     text.extend_from_slice(b"x\n")?;
     assert!(rt; text.len() <= 67_108_864);
     match read_column(alloc, &text, b"v", 0, None) {

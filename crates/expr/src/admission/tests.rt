@@ -102,3 +102,23 @@ fn ranks(rt: HostRuntime) -> Result<(), Fail> {
     );
     Ok(())
 }
+
+#[test]
+fn copies(rt: HostRuntime) -> Result<(), Fail> {
+    let alloc = rt.alloc();
+    let x = Name::of(b"x").ok_or("x")?;
+    let sum = Query::Sum(Series::Base(x), Some(Bounds { l: 0, r: 33 }));
+    let product = Query::Mul(Box::new(alloc, Query::Number(7))?, Box::new(alloc, sum)?);
+    let copy = product.copy(alloc).map_err(|_| "a copy")?;
+    let Query::Mul(p, q) = &copy else {
+        return Err(Fail::from("a product"));
+    };
+    assert!(rt; matches!(&**p, Query::Number(7)));
+    assert!(rt;
+        matches!(
+            &**q,
+            Query::Sum(Series::Base(_), Some(Bounds { l: 0, r: 33 }))
+        )
+    );
+    Ok(())
+}

@@ -1,3 +1,4 @@
+use Rattle.expr_parse.proofs.Bounds.{query_has_few}
 use Rattle.expr_parse.proofs.Whole.{none_where_stuck, within_limits}
 use Rattle.expr_parse.proofs.text.by_lexemes.Goals as goal
 
@@ -8,3 +9,7 @@ returns-in_ok-q-in-Ok-clause-limits c =
 
 pub returns-in-Err-Stuck-clause-outside : goal.returns-in-Err-Stuck-clause-outside
 returns-in-Err-Stuck-clause-outside c = none_where_stuck c.args.said.now _ (rw c.in-Err-Stuck.field-0-is at c.in-Err-Stuck.ensures.stuck)
+
+pub returns-in_ok-q-in-Ok-clause-nodes : goal.returns-in_ok-q-in-Ok-clause-nodes
+returns-in_ok-q-in-Ok-clause-nodes c =
+    rw c.in_ok-q-in-Ok.ensures.same (query_has_few c.args.said.now _ _ c.in-Ok.ensures.found c.requires.few)

@@ -13,23 +13,23 @@ pub invariant_of-result : goal.invariant_of-result
 invariant_of-result c =
     let low : SFits w64 c.args.l = c.ranges.l in
     let high : SFits w64 c.args.r = c.ranges.r in
-    let pieces : IsRefinement c.args.spans.now c.args.occs.now c.args.l c.args.r (view_all c.in-Ok.items.items) = simp to_z-of_z at c.in-Ok.ensures in
+    let pieces : IsRefinement c.args.spans.now c.args.occs.now c.args.l c.args.r (view_all c.in_ok-items.items.items) = simp to_z-of_z at c.in_ok-items.ensures in
     omega (
       arith,
-      length-map c.in-Ok.items.items view_of,
-      few_pieces c.args.spans.now c.args.occs.now c.args.l c.args.r (view_all c.in-Ok.items.items) c.requires.within c.requires.read pieces,
+      length-map c.in_ok-items.items.items view_of,
+      few_pieces c.args.spans.now c.args.occs.now c.args.l c.args.r (view_all c.in_ok-items.items.items) c.requires.within c.requires.read pieces,
     )
 
 pub returns-clause-each : goal.returns-clause-each
 returns-clause-each c =
     let low : SFits w64 c.args.l = c.ranges.l in
     let high : SFits w64 c.args.r = c.ranges.r in
-    let pieces : IsRefinement c.args.spans.now c.args.occs.now c.args.l c.args.r (view_all c.in-Ok.items.items) = simp to_z-of_z at c.in-Ok.ensures in
-    λ i. in_one c.args.l c.args.r (view_all c.in-Ok.items.items) i pieces.runs
+    let pieces : IsRefinement c.args.spans.now c.args.occs.now c.args.l c.args.r (view_all c.in_ok-items.items.items) = simp to_z-of_z at c.in_ok-items.ensures in
+    λ i. in_one c.args.l c.args.r (view_all c.in_ok-items.items.items) i pieces.runs
 
 pub returns-clause-one : goal.returns-clause-one
 returns-clause-one c =
     let low : SFits w64 c.args.l = c.ranges.l in
     let high : SFits w64 c.args.r = c.ranges.r in
-    let pieces : IsRefinement c.args.spans.now c.args.occs.now c.args.l c.args.r (view_all c.in-Ok.items.items) = simp to_z-of_z at c.in-Ok.ensures in
-    one_piece_of c.args.spans.now c.args.occs.now c.args.l c.args.r (view_all c.in-Ok.items.items) pieces
+    let pieces : IsRefinement c.args.spans.now c.args.occs.now c.args.l c.args.r (view_all c.in_ok-items.items.items) = simp to_z-of_z at c.in_ok-items.ensures in
+    one_piece_of c.args.spans.now c.args.occs.now c.args.l c.args.r (view_all c.in_ok-items.items.items) pieces

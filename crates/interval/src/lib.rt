@@ -4,6 +4,7 @@
 ghost use Rattle.std.specs.Prelude.{◌≡◌, ℕ, ◌≤◌, ◌+◌, ◌^◌, ◌*◌, ℤ, ◌≤ℤ◌, ◌<ℤ◌, ◌+ℤ◌, ◌-ℤ◌, ◌*ℤ◌, pos, IsTrue, ◌↔◌, IfSome, IsNone, unsigned_abs};
 ghost use Rattle.interval.specs.Interval.{Interval, Has, IsOrdered, IsWithin, ShareNone, most_of, sum_of, difference_of, least_of, greatest_of, around_of, product_of, meet_of};
 
+use poly::{minus, plus, times};
 use std::marker::Model;
 
 /// An interval. Its ends are at most 2^126 in magnitude, and the lower one is at most the upper one.
@@ -46,14 +47,12 @@ impl Iv {
         if lo <= hi { Some(Iv { lo, hi }) } else { None }
     }
 
-    /// The least number.
     pub fn lo(&self) -> i128
         ensures { result ≡ self.now.lo }
     {
         self.lo
     }
 
-    /// The greatest number.
     pub fn hi(&self) -> i128
         ensures { result ≡ self.now.hi }
     {
@@ -83,8 +82,8 @@ impl Iv {
         ensures holds { (x y : ℤ) → Has self x → Has o y → Has result (x +ℤ y) }
     {
         Iv {
-            lo: sum(self.lo, o.lo),
-            hi: sum(self.hi, o.hi),
+            lo: plus(self.lo, o.lo),
+            hi: plus(self.hi, o.hi),
         }
     }
 
@@ -95,8 +94,8 @@ impl Iv {
         ensures holds { (x y : ℤ) → Has self x → Has o y → Has result (x -ℤ y) }
     {
         Iv {
-            lo: difference(self.lo, o.hi),
-            hi: difference(self.hi, o.lo),
+            lo: minus(self.lo, o.hi),
+            hi: minus(self.hi, o.lo),
         }
     }
 
@@ -107,10 +106,10 @@ impl Iv {
         ensures holds { (x y : ℤ) → Has self x → Has o y → Has result (x *ℤ y) }
         ensures least { (z : Interval) → ((x y : ℤ) → Has self x → Has o y → Has z (x *ℤ y)) → IsWithin result z }
     {
-        let a = product(self.lo, o.lo);
-        let b = product(self.lo, o.hi);
-        let c = product(self.hi, o.lo);
-        let d = product(self.hi, o.hi);
+        let a = times(self.lo, o.lo);
+        let b = times(self.lo, o.hi);
+        let c = times(self.hi, o.lo);
+        let d = times(self.hi, o.hi);
         around(a, b, c, d)
     }
 
@@ -156,30 +155,6 @@ fn greatest(a: i128, b: i128, c: i128, d: i128) -> i128
     ensures { result ≡ greatest_of a b c d }
 {
     a.max(b).max(c.max(d))
-}
-
-fn sum(a: i128, b: i128) -> i128
-    requires { unsigned_abs a + unsigned_abs b ≤ 2 ^ 126 }
-    ensures value { result ≡ a +ℤ b }
-    ensures bound { unsigned_abs result ≤ 2 ^ 126 }
-{
-    a + b
-}
-
-fn difference(a: i128, b: i128) -> i128
-    requires { unsigned_abs a + unsigned_abs b ≤ 2 ^ 126 }
-    ensures value { result ≡ a -ℤ b }
-    ensures bound { unsigned_abs result ≤ 2 ^ 126 }
-{
-    a - b
-}
-
-fn product(a: i128, b: i128) -> i128
-    requires { unsigned_abs a * unsigned_abs b ≤ 2 ^ 126 }
-    ensures value { result ≡ a *ℤ b }
-    ensures bound { unsigned_abs result ≤ 2 ^ 126 }
-{
-    a * b
 }
 
 #[cfg(test)]

@@ -4,7 +4,8 @@ use Rattle.std.proofs.lemmas.Bool.Decides.{nat_tests}
 use Rattle.std.specs.Prelude.{◌&&◌, ◌||◌}
 use Rattle.std.specs.List.{list_any}
 use Rattle.semantics.specs.Faults.{Rose}
-use Rattle.outside.specs.Calls.{calls_after, cut_at, cut_next, fails_next, faults_by, last_number, numbers_of}
+use Rattle.outside.specs.Calls.{cut_at, cut_next, fails_next, faults_by, numbers_of}
+use Rattle.outside.specs.Counts.{count_after, last_number}
 
 faults_by-cons : (x c : ℕ) (xs : List ℕ) → faults_by (x ∷ xs) c ≡ cond (leb 1 x && leb x c) 1 0 + faults_by xs c
 faults_by-cons x c xs = refl
@@ -30,8 +31,8 @@ faults_by-listed (x ∷ xs) c h = by (eqb x (c + 1)) refl (faults_by-listed xs c
     by false e rest h = omega (arith, faults_by-cons x c xs, faults_by-cons x (c + 1) xs, one_more x c (c + 1) (omega arith), rest h)
 
 -- one more call loses no fault
-pub faults_stay : (listed : List ℕ) (calls : ℕ) → calls ≤ last_number → faults_by listed calls ≤ faults_by listed (calls_after calls)
-faults_stay listed calls h = faults_by-grows listed calls (calls_after calls) (omega arith)
+pub faults_stay : (listed : List ℕ) (calls : ℕ) → calls ≤ last_number → faults_by listed calls ≤ faults_by listed (count_after calls)
+faults_stay listed calls h = faults_by-grows listed calls (count_after calls) (omega arith)
 
 both : (a b : Bool) → (a && b) ≡ true → (a ≡ true) × (b ≡ true)
 both true true h = (refl, refl)
@@ -39,11 +40,11 @@ both true false h = cc
 both false b h = cc
 
 -- a call that is to fail is a fault
-pub fault_rises : (listed : List ℕ) (calls : ℕ) → fails_next listed calls ≡ true → Rose (faults_by listed calls) (faults_by listed (calls_after calls))
+pub fault_rises : (listed : List ℕ) (calls : ℕ) → fails_next listed calls ≡ true → Rose (faults_by listed calls) (faults_by listed (count_after calls))
 fault_rises listed calls h =
     let parts = both (ltb calls last_number) (list_any (λ y. eqb y (calls + 1)) listed) h in
     let below : calls + 1 ≤ last_number = grind (arith, nat_tests, parts.0) in
-    let same : calls_after calls ≡ calls + 1 = omega arith in
+    let same : count_after calls ≡ calls + 1 = omega arith in
     rw same (omega (arith, faults_by-listed listed calls parts.1))
 
 cut_at-listed : (pairs : List (ℕ × ℕ)) (number cut : ℕ) → cut_at pairs number ≡ Some cut → list_any (λ k. eqb k number) (numbers_of pairs) ≡ true
@@ -64,5 +65,5 @@ fails_next-cut pairs calls cut h = by (ltb calls last_number) h
 
 -- a call with a pair of its number is a fault
 pub cut_rises : (pairs : List (ℕ × ℕ)) (calls cut : ℕ) → cut_next pairs calls ≡ Some cut
-    → Rose (faults_by (numbers_of pairs) calls) (faults_by (numbers_of pairs) (calls_after calls))
+    → Rose (faults_by (numbers_of pairs) calls) (faults_by (numbers_of pairs) (count_after calls))
 cut_rises pairs calls cut h = fault_rises (numbers_of pairs) calls (fails_next-cut pairs calls cut h)

@@ -1,14 +1,7 @@
 -- Numbered calls, some of which are to fail.
-use Rattle.std.specs.Prelude.{ℕ, ◌+◌, ◌-◌, ◌^◌, ◌&&◌, ◌==◌, Bool, nat_lt, nat_le, min, List, [], ◌∷◌, map, Option, Some, None, if◌then◌else◌}
+use Rattle.std.specs.Prelude.{ℕ, ◌+◌, ◌&&◌, ◌==◌, Bool, nat_lt, nat_le, List, [], ◌∷◌, map, Option, Some, None, if◌then◌else◌}
 use Rattle.std.specs.List.{list_any}
-
--- the greatest number of a call
-abbrev pub last_number : ℕ
-last_number = 2 ^ 64 - 1
-
--- the calls made after one more call, which stand still at the last number
-abbrev pub calls_after : ℕ → ℕ
-calls_after calls = min (calls + 1) last_number
+use Rattle.outside.specs.Counts.{last_number}
 
 -- whether the call after so many calls is to fail, which is where its number is listed
 abbrev pub fails_next : List ℕ → ℕ → Bool

@@ -1,6 +1,9 @@
 pub mod Calls
+pub mod Counts
 pub mod Fetching
 pub mod MapFiles
 pub mod MemOuts
 pub mod MemShelves
 pub mod Parts
+pub mod SteadyShelves
+pub mod Untold

@@ -1,5 +1,5 @@
 -- What a shelf in memory holds.
-use Rattle.std.specs.Prelude.{ℕ, List}
+use Rattle.std.specs.Prelude.{ℕ, List, Option}
 use Rattle.semantics.specs.Files.{Files}
 use Rattle.outside.specs.Calls.{faults_by}
 use Rattle.outside.specs.MapFiles.{files_of}
@@ -28,3 +28,11 @@ read_faults_of s = faults_by (failing_reads s) (reads_made s)
 
 abbrev pub replace_faults_of : MemShelf → ℕ
 replace_faults_of s = faults_by (failing_replaces s) (replaces_made s)
+
+-- how many bytes were handed out in parts, while the number fits
+abbrev pub bytes_handed : MemShelf → Option ℕ
+bytes_handed s = s.handed
+
+-- how often a file was fetched, while the number fits
+abbrev pub fetches_made : MemShelf → Option ℕ
+fetches_made s = s.fetches

@@ -1,75 +1,90 @@
 // The files of the current folder.
 
-ghost use Rattle.std.specs.Prelude.{◌≡◌, ◌≤◌, length};
+ghost use Rattle.std.specs.Prelude.{◌≡◌, ◌≢◌, ◌≤◌, None, OnErr, OnOk, length};
+ghost use Rattle.semantics.specs.Faults.{Rose};
+ghost use Rattle.outside.specs.Counts.{count_after};
+ghost use Rattle.outside.specs.Parts.{HandedBy, RisesBy};
+ghost use Rattle.outside.specs.Untold.{untold};
 
+use crate::kept_file::KeptFile;
+use crate::opening::found;
 use crate::shelves::{Failed, FetchErr, Fetched, ReplaceErr, Shelf};
+use crate::whole_files::read_up_to;
 use crate::whole_pieces::write_whole;
 use std::alloc::Global;
 use std::fs::{self, File, OpenFile};
-use std::io::{ErrorKind, Read};
-use std::os::unix::fs::FileExt;
+use std::marker::Model;
 use std::rt::Files;
 
 /// The files of the current folder. It tells none of them, and counts each error of the system. A file is written anew
-/// as NAME.new, which is then renamed over NAME; after a fault NAME.new may be left behind.
+/// as NAME.new, which is then renamed over NAME; after a fault NAME.new may be left behind. The file whose parts are
+/// read stays open until another one's are, or until a file is written anew.
 #[derive(Drop)]
 pub struct DirShelf<'a, R: Files<File = File>> {
     alloc: Global,
     rt: &'a R,
     read_faults: u64,
     replace_faults: u64,
-    /// The file of which parts are read.
-    open: Option<Opened>,
+    kept: Option<KeptFile>,
 }
 
-/// A file that stays open while its parts are read.
-#[derive(Drop)]
-struct Opened {
-    name: String,
-    file: File,
-    len: u64,
+impl<'a, R: Files<File = File>> Model for DirShelf<'a, R> {
+    ghost use Rattle.outside.specs.Counts.{FaultCounts};
+
+    ghost Value = { FaultCounts };
+
+    ghost view = { λ s. record { reads = s.read_faults; replaces = s.replace_faults } };
 }
 
 impl<'a, R: Files<File = File>> DirShelf<'a, R> {
-    pub fn new(alloc: Global, rt: &'a R) -> DirShelf<'a, R> {
+    pub fn new(alloc: Global, rt: &'a R) -> DirShelf<'a, R>
+        ensures reads { result.reads ≡ 0 }
+        ensures replaces { result.replaces ≡ 0 }
+    {
         DirShelf {
             alloc,
             rt,
             read_faults: 0,
             replace_faults: 0,
-            open: None,
+            kept: None,
         }
     }
-}
 
-// How many bytes are read at a time.
-const BLOCK: u64 = 4096;
+    // The file of a name, which may be open already, or `None` where there is none.
+    fn take_open(&mut self, name: &str) -> Result<Option<KeptFile>, Failed>
+        ensures { self.new ≡ self.old }
+    {
+        match self.kept.take() {
+            Some(kept) if kept.is_of(name) => Ok(Some(kept)),
+            _ => KeptFile::open(self.alloc, self.rt, name),
+        }
+    }
 
-// Appends what is left of a file, up to one byte past the limit.
-fn read_up_to<F: Read>(file: &mut F, limit: u64, into: &mut Vec<u8>) -> Result<Fetched, FetchErr>
-    requires { length into.old.items ≤ limit }
-    ensures within { result ≡ Ok Fetched.Whole → length into.new.items ≤ limit }
-{
-    let mut block = [0u8; BLOCK as usize];
-    loop {
-        let room = limit - into.len() as u64;
-        let most = room.min(BLOCK - 1) as usize + 1;
-        let Ok(count) = file.read(&mut block[..most]) else {
-            return Err(FetchErr::Failed);
+    fn size_of(&mut self, name: &str) -> Result<Option<u64>, Failed>
+        ensures { self.new ≡ self.old }
+    {
+        let Some(file) = self.take_open(name)? else {
+            return Ok(None);
         };
-        if count == 0 {
-            return Ok(Fetched::Whole);
-        }
-        if count as u64 > room {
-            return Ok(Fetched::OverLimit);
-        }
-        if into.extend_from_slice(&block[..count]).is_err() {
-            return Err(FetchErr::Memory);
-        }
+        let len = file.len();
+        self.kept = Some(file);
+        Ok(Some(len))
+    }
+
+    fn read_part(&mut self, name: &str, at: u64, buf: &mut [u8]) -> Result<bool, Failed>
+        ensures stays { self.new ≡ self.old }
+        ensures long { length buf.new ≡ length buf.old }
+    {
+        let Some(mut file) = self.take_open(name)? else {
+            return Ok(false);
+        };
+        let answer = file.part(self.alloc, at, buf);
+        self.kept = Some(file);
+        answer
     }
 }
 
-// Reads a file whole, from its start.
+// Reads a file whole.
 fn read_file<R: Files<File = File>>(
     rt: &R,
     name: &str,
@@ -78,20 +93,16 @@ fn read_file<R: Files<File = File>>(
 ) -> Result<Fetched, FetchErr>
     ensures within { result ≡ Ok Fetched.Whole → length into.new.items ≤ limit }
 {
-    into.clear();
-    match fs::open(rt, name) {
-        Ok(mut file) => {
-            let found = read_up_to(&mut file, limit, into)?;
-            Ok(found)
-        }
-        Err(e) => {
-            if e.kind() == ErrorKind::NotFound {
-                Ok(Fetched::Absent)
-            } else {
-                Err(FetchErr::Failed)
-            }
-        }
-    }
+    let Ok(opened) = found(fs::open(rt, name)) else {
+        return Err(FetchErr::Failed);
+    };
+    let Some(mut file) = opened else {
+        return Ok(Fetched::Absent);
+    };
+    let Ok(data) = file.metadata() else {
+        return Err(FetchErr::Failed);
+    };
+    read_up_to(&mut file, data.len(), limit, into)
 }
 
 // Makes a file of these bytes, or says false at a fault.
@@ -121,18 +132,29 @@ fn replace_file<R: Files<File = File>>(
 
 impl<'a, R: Files<File = File>> Shelf for DirShelf<'a, R> {
     ghost use Rattle.std.specs.Prelude.{None};
+    ghost use Rattle.outside.specs.Untold.{untold};
 
-    ghost files = { λ _. None };
+    ghost files = { λ _. untold };
 
-    ghost read_faults = { λ s. s.read_faults };
+    ghost read_faults = { λ s. s.reads };
 
-    ghost replace_faults = { λ s. s.replace_faults };
+    ghost replace_faults = { λ s. s.replaces };
 
     ghost handed = { λ _. None };
 
     ghost fetches = { λ _. None };
 
-    fn fetch(&mut self, name: &str, limit: u64, into: &mut Vec<u8>) -> Result<Fetched, FetchErr> {
+    fn fetch(&mut self, name: &str, limit: u64, into: &mut Vec<u8>) -> Result<Fetched, FetchErr>
+        ensures within { result ≡ Ok Fetched.Whole → length into.new.items ≤ limit }
+        ensures failed { result ≡ Err FetchErr.Failed → Rose self.old.reads self.new.reads }
+        ensures read_faults_stay { self.old.reads ≤ self.new.reads }
+        ensures replace_faults_stay { self.new.replaces ≡ self.old.replaces }
+        ensures fetches { RisesBy 1 None None }
+
+        // The count rises by one, and at a fault alone.
+        ensures by_one { result ≡ Err FetchErr.Failed → self.new.reads ≡ count_after self.old.reads }
+        ensures nowhere_else { result ≢ Err FetchErr.Failed → self.new.reads ≡ self.old.reads }
+    {
         let answer = read_file(self.rt, name, limit, into);
         if answer == Err(FetchErr::Failed) {
             self.read_faults = self.read_faults.saturating_add(1);
@@ -140,87 +162,54 @@ impl<'a, R: Files<File = File>> Shelf for DirShelf<'a, R> {
         answer
     }
 
-    fn replace(&mut self, name: &str, bytes: &[u8]) -> Result<(), ReplaceErr> {
-        self.open = None;
-        let answer = replace_file(self.alloc, self.rt, name, bytes);
-        if answer == Err(ReplaceErr::Failed) {
-            self.replace_faults = self.replace_faults.saturating_add(1);
-        }
-        answer
-    }
+    fn size(&mut self, name: &str) -> Result<Option<u64>, Failed>
+        ensures failed { OnErr result (Rose self.old.reads self.new.reads) }
+        ensures read_faults_stay { self.old.reads ≤ self.new.reads }
+        ensures replace_faults_stay { self.new.replaces ≡ self.old.replaces }
 
-    fn size(&mut self, name: &str) -> Result<Option<u64>, Failed> {
-        match self.opened(name) {
-            Ok(true) => match &self.open {
-                Some(opened) => Ok(Some(opened.len)),
-                None => Ok(None),
-            },
-            Ok(false) => Ok(None),
-            Err(_) => {
-                self.read_faults = self.read_faults.saturating_add(1);
-                Err(Failed)
-            }
-        }
-    }
-
-    fn part(&mut self, name: &str, at: u64, buf: &mut [u8]) -> Result<bool, Failed> {
-        let answer = match self.opened(name) {
-            Ok(true) => match &self.open {
-                Some(opened) => part_of(opened, at, buf),
-                None => Ok(false),
-            },
-            Ok(false) => Ok(false),
-            Err(_) => Err(Failed),
-        };
+        // The count rises by one, and at a fault alone.
+        ensures by_one { OnErr result (self.new.reads ≡ count_after self.old.reads) }
+        ensures nowhere_else { OnOk result (self.new.reads ≡ self.old.reads) }
+    {
+        let answer = self.size_of(name);
         if answer.is_err() {
             self.read_faults = self.read_faults.saturating_add(1);
         }
         answer
     }
-}
 
-// Reads a part of an open file, whose length is tested first.
-fn part_of(opened: &Opened, at: u64, buf: &mut [u8]) -> Result<bool, Failed> {
-    if at > opened.len || opened.len - at < buf.len() as u64 {
-        return Ok(false);
-    }
-    match opened.file.read_exact_at(buf, at) {
-        Ok(()) => Ok(true),
-        Err(_) => Err(Failed),
-    }
-}
+    fn part(&mut self, name: &str, at: u64, buf: &mut [u8]) -> Result<bool, Failed>
+        ensures failed { OnErr result (Rose self.old.reads self.new.reads) }
+        ensures read_faults_stay { self.old.reads ≤ self.new.reads }
+        ensures replace_faults_stay { self.new.replaces ≡ self.old.replaces }
+        ensures handed { HandedBy result (length buf.old) None None }
 
-impl<'a, R: Files<File = File>> DirShelf<'a, R> {
-    // Lets the file of a name be the open one, or says false where there is none.
-    fn opened(&mut self, name: &str) -> Result<bool, Failed>
-        ensures reads { self.new.read_faults ≡ self.old.read_faults }
-        ensures replaces { self.new.replace_faults ≡ self.old.replace_faults }
+        // The count rises by one, and at a fault alone.
+        ensures by_one { OnErr result (self.new.reads ≡ count_after self.old.reads) }
+        ensures nowhere_else { OnOk result (self.new.reads ≡ self.old.reads) }
     {
-        if let Some(opened) = &self.open {
-            if opened.name.as_str() == name {
-                return Ok(true);
-            }
+        let answer = self.read_part(name, at, buf);
+        if answer.is_err() {
+            self.read_faults = self.read_faults.saturating_add(1);
         }
-        let file = match fs::open(self.rt, name) {
-            Ok(file) => file,
-            Err(e) => {
-                if e.kind() == ErrorKind::NotFound {
-                    return Ok(false);
-                }
-                return Err(Failed);
-            }
-        };
-        let Ok(data) = file.metadata() else {
-            return Err(Failed);
-        };
-        let Ok(name) = String::from_str(self.alloc, name) else {
-            return Err(Failed);
-        };
-        self.open = Some(Opened {
-            name,
-            file,
-            len: data.len(),
-        });
-        Ok(true)
+        answer
+    }
+
+    fn replace(&mut self, name: &str, bytes: &[u8]) -> Result<(), ReplaceErr>
+        ensures refused { OnErr result (untold ≡ untold) }
+        ensures failed { result ≡ Err ReplaceErr.Failed → Rose self.old.replaces self.new.replaces }
+        ensures replace_faults_stay { self.old.replaces ≤ self.new.replaces }
+        ensures read_faults_stay { self.new.reads ≡ self.old.reads }
+
+        // The count rises by one, and at a fault alone.
+        ensures by_one { result ≡ Err ReplaceErr.Failed → self.new.replaces ≡ count_after self.old.replaces }
+        ensures nowhere_else { result ≢ Err ReplaceErr.Failed → self.new.replaces ≡ self.old.replaces }
+    {
+        self.kept = None;
+        let answer = replace_file(self.alloc, self.rt, name, bytes);
+        if answer == Err(ReplaceErr::Failed) {
+            self.replace_faults = self.replace_faults.saturating_add(1);
+        }
+        answer
     }
 }

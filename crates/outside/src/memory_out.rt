@@ -3,7 +3,8 @@
 ghost use Rattle.std.specs.Prelude.{◌≡◌, ◌≤◌, ◌++◌, ℕ, List, [], Some, OnOk, OnErr, IfErr};
 ghost use Rattle.std.specs.Io.KnownBytes.{Appends};
 ghost use Rattle.semantics.specs.Faults.{Rose};
-ghost use Rattle.outside.specs.Calls.{calls_after, cut_next};
+ghost use Rattle.outside.specs.Calls.{cut_next};
+ghost use Rattle.outside.specs.Counts.{count_after};
 
 use crate::failing_calls::cut_next;
 use crate::output::{Out, PutErr};
@@ -42,8 +43,8 @@ impl MemOut {
     }
 }
 
-// Appends a piece, or nothing.
-fn append(bytes: &mut Vec<u8>, piece: &[u8]) -> Result<(), PutErr>
+/// Appends a piece, or nothing.
+pub(crate) fn append(bytes: &mut Vec<u8>, piece: &[u8]) -> Result<(), PutErr>
     ensures ok { OnOk result (bytes.new.items ≡ bytes.old.items ++ piece.now) }
     ensures none { OnErr result (bytes.new.items ≡ bytes.old.items) }
     ensures err { IfErr result (λ e. e ≡ PutErr.Memory) }
@@ -74,7 +75,7 @@ impl Out for MemOut {
         ensures faults_stay { put_faults_of self.old ≤ put_faults_of self.new }
 
         // One more call is made.
-        ensures calls { puts_made self.new ≡ calls_after (puts_made self.old) }
+        ensures calls { puts_made self.new ≡ count_after (puts_made self.old) }
         ensures listed_stay { failing_puts self.new ≡ failing_puts self.old }
     {
         let cut = cut_next(&self.fail, self.calls);

@@ -2,7 +2,7 @@ use Rattle.std.proofs.Common.{◌≡◌, Some, subst, ◌∙◌}
 use Rattle.std.specs.BTreeMap.{Updates}
 use Rattle.std.specs.String.{string_cmp}
 use Rattle.outside.proofs.FileLaws.{files_of-updated}
-use Rattle.outside.proofs.memory_shelf.put.Goals as goal
+use Rattle.outside.proofs.map_files.put.Goals as goal
 
 pub returns-in-Ok-insert-clause-ok : goal.returns-in-Ok-insert-clause-ok
 returns-in-Ok-insert-clause-ok c =

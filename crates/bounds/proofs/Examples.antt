@@ -5,17 +5,17 @@ use Rattle.std.proofs.lemmas.Int.{ints}
 use Rattle.semantics.specs.Names.{same_name}
 use Rattle.semantics.specs.Term.{base, times}
 use Rattle.segment.specs.declared.segments.Seg.{Seg}
-use Rattle.segment.specs.Measure.{unit, unit_seg, miss, reach, spread, IsTrueOf}
+use Rattle.segment.specs.Measure.{unit, unit_seg, miss, greatest_estimate, greatest_reading, IsTrueOf}
 use Rattle.bounds.specs.Segments.{AreTrueOf}
 use Rattle.bounds.specs.Worked.{x, y, product, steps, steps_root, turns, turns_root, SumsAreWorked}
 use Rattle.bounds.specs.WrongRules.{CrossTermsCount, GreatestWeightsCount}
 
 turns_true : IsTrueOf (turns 16) turns_root
-unfolding miss spread reach
+unfolding miss greatest_reading greatest_estimate
 turns_true = record { measured = refl; bounded = record { constant = omega arith; linear = omega arith; square = omega arith } }
 
 steps_true : IsTrueOf steps steps_root
-unfolding miss spread reach
+unfolding miss greatest_reading greatest_estimate
 steps_true = record { measured = refl; bounded = record { constant = omega arith; linear = omega arith; square = omega arith } }
 
 pub sums_worked : SumsAreWorked
@@ -38,7 +38,7 @@ abbrev spike_root : Seg
 spike_root = record { start = 0; len = 10; a = pos unit; b = pos 0; c = pos 0; l = 18 * unit; d = 10; f = unit }
 
 spike_true : IsTrueOf spike spike_root
-unfolding miss spread reach
+unfolding miss greatest_reading greatest_estimate
 spike_true = record { measured = refl; bounded = record { constant = omega arith; linear = omega arith; square = omega arith } }
 
 spike_frame : AreTrueOf spike (spike_root ∷ [])
@@ -66,15 +66,15 @@ abbrev readings_of : List ℕ → List ℤ
 readings_of name = cond (same_name name x) peak hill
 
 zero_true : (start : ℕ) → IsTrueOf (pos 0 ∷ []) (unit_seg start (pos 0))
-unfolding miss spread reach
+unfolding miss greatest_reading greatest_estimate
 zero_true start = record { measured = refl; bounded = record { constant = omega arith; linear = omega arith; square = omega arith } }
 
 ten_true : IsTrueOf (pos 10 ∷ []) (unit_seg 1 (pos 10))
-unfolding miss spread reach
+unfolding miss greatest_reading greatest_estimate
 ten_true = record { measured = refl; bounded = record { constant = omega arith; linear = omega arith; square = omega arith } }
 
 hill_true : IsTrueOf hill hill_root
-unfolding miss spread reach
+unfolding miss greatest_reading greatest_estimate
 hill_true = record { measured = refl; bounded = record { constant = omega arith; linear = omega arith; square = omega arith } }
 
 peak_frame : AreTrueOf peak (unit_seg 0 (pos 0) ∷ unit_seg 1 (pos 10) ∷ unit_seg 2 (pos 0) ∷ [])

@@ -10,7 +10,7 @@ use Rattle.semantics.specs.Readings.{reading, reading_at}
 use Rattle.semantics.specs.Sums.{sum_below, most_below}
 use Rattle.semantics.proofs.SumLaws.{most_below-at}
 use Rattle.segment.specs.declared.segments.Seg.{Seg}
-use Rattle.segment.specs.Measure.{unit, estimate_at, curve_of, magnitude_at, miss, miss_at, reach, reach_at, spread}
+use Rattle.segment.specs.Measure.{unit, estimate_at, curve_of, magnitude_at, miss, miss_at, greatest_estimate, estimate_magnitude_at, greatest_reading}
 use Rattle.bounds.specs.Segments.{covers, estimate_of, no_seg, seg_at, HasTrueSegs, IsTrueIn, TouchFrom}
 use Rattle.bounds.proofs.FormBounds.{SegsHold}
 use Rattle.bounds.proofs.MissLaws.{AreMeasured, gap}
@@ -49,7 +49,7 @@ place_in g (pos p) h =
 place_in g (negsuc p) h = absurd (false≢true h)
 
 seg_says : (xs : List ℤ) (g : Seg) → IsTrueIn xs g → SegSays xs g
-unfolding miss spread reach
+unfolding miss greatest_reading greatest_estimate
 seg_says xs g h =
     let same : g.len ≡ length (take g.len (drop g.start xs)) = ap (λ (s : Seg). s.len) h.measured in
     record {
@@ -69,10 +69,10 @@ seg_says xs g h =
           omega (arith, greatest, e, m);
       f = λ i c.
           let p = place_in g i c in
-          let greatest : g.f ≡ most_below (reach_at (curve_of g)) (length (take g.len (drop g.start xs))) = ap (λ (s : Seg). s.f) h.measured in
-          let e : unsigned_abs (estimate_of g i) ≡ reach_at (curve_of g) p.0 =
+          let greatest : g.f ≡ most_below (estimate_magnitude_at (curve_of g)) (length (take g.len (drop g.start xs))) = ap (λ (s : Seg). s.f) h.measured in
+          let e : unsigned_abs (estimate_of g i) ≡ estimate_magnitude_at (curve_of g) p.0 =
           ap (λ z. unsigned_abs (estimate_of g z)) p.2 ∙ ap unsigned_abs (estimate_there g p.0) in
-          let m = most_below-at (reach_at (curve_of g)) (length (take g.len (drop g.start xs))) p.0 (omega (arith, same, p.1)) in
+          let m = most_below-at (estimate_magnitude_at (curve_of g)) (length (take g.len (drop g.start xs))) p.0 (omega (arith, same, p.1)) in
           omega (arith, greatest, e, m);
     }
 

@@ -15,7 +15,7 @@ use Rattle.segment.specs.Shape.{Range, shape, IsSplit}
 use Rattle.segment.specs.Measure.{unit, estimate_at, miss_at, miss, AreReadings}
 use Rattle.segment.specs.Fit.{flat_of, fit_of, fit_over}
 use Rattle.segment.specs.Tree.{fitted_series}
-use Rattle.segment.proofs.Bounds.{spread-le}
+use Rattle.segment.proofs.Bounds.{greatest_reading-le}
 use Rattle.segment.proofs.FitLaws.{flat-le}
 use Rattle.segment.proofs.TreeLaws.{all_segs-fitted_series, all_readings-fitted_series}
 use Rattle.query_cli.specs.declared.cut.CutRow.{CutRow}
@@ -89,7 +89,7 @@ are_readings_in xs start len small = λ i. elim (cases_lt i len) [
 
 flat_level : (xs : List ℤ) → 0 < length xs → AreReadings xs → unsigned_abs (flat_of xs).a ≤ 2 ^ 44
 unfolding flat_of
-flat_level xs some small = omega (arith, flat-le xs some, spread-le xs small)
+flat_level xs some small = omega (arith, flat-le xs some, greatest_reading-le xs small)
 
 gap_small : (x a : ℤ) → unsigned_abs x ≤ 10 ^ 9 → unsigned_abs a ≤ 2 ^ 44 → unsigned_abs ((pos unit *ℤ x) -ℤ a) ≤ 2 ^ 45
 gap_small x a h k = omega (arith, ints)

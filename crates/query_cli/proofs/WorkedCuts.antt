@@ -1,7 +1,7 @@
 -- Descents over small series, computed.
 use Rattle.std.proofs.Common.{◌≡◌, ℕ, zero, suc, ◌<◌, List, [], ◌∷◌, length, ℤ, pos, negsuc, refl, sym, arith}
 use Rattle.segment.specs.Shape.{leaf, fork, plan, IsSplit}
-use Rattle.segment.specs.Measure.{miss, spread, reach}
+use Rattle.segment.specs.Measure.{miss, greatest_reading, greatest_estimate}
 use Rattle.segment.specs.Fit.{flat_of}
 use Rattle.segment.proofs.ShapeLaws.{plan-leaf, plan-fork}
 use Rattle.query_cli.specs.Cuts.{Row, closed_row, opened_row, low_end, high_end, width, opened_in}
@@ -25,15 +25,15 @@ unfolding readings ten_nothing
 first = refl
 
 second : cut_after readings 0 32 1 ≡ closed_row 0 16 ∷ closed_row 16 16 ∷ []
-unfolding readings ten_nothing miss spread reach flat_of
+unfolding readings ten_nothing miss greatest_reading greatest_estimate flat_of
 second = rw two_leaves refl
 
 third : cut_after readings 0 32 2 ≡ opened_row 0 16 ∷ closed_row 16 16 ∷ []
-unfolding readings ten_nothing miss spread reach flat_of
+unfolding readings ten_nothing miss greatest_reading greatest_estimate flat_of
 third = rw (two_leaves, plan-leaf 0 16 (omega arith)) refl
 
 fourth : cut_after readings 0 32 3 ≡ opened_row 0 16 ∷ opened_row 16 16 ∷ []
-unfolding readings ten_nothing miss spread reach flat_of
+unfolding readings ten_nothing miss greatest_reading greatest_estimate flat_of
 fourth = rw (two_leaves, plan-leaf 0 16 (omega arith), plan-leaf 16 16 (omega arith)) refl
 
 -- the ends and the width of an interval
@@ -43,37 +43,37 @@ record Has (xs : List ℤ) (from until : ℕ) (cut : List Row) (lo hi : ℤ) (wi
   width : width xs from until cut ≡ wide
 
 root_ends : Has readings 0 32 (closed_row 0 32 ∷ []) (pos 0) (pos 320) 320
-unfolding readings ten_nothing miss spread reach flat_of
+unfolding readings ten_nothing miss greatest_reading greatest_estimate flat_of
 root_ends = record { low = refl; high = refl; width = refl }
 
 split_ends : Has readings 0 32 (closed_row 0 16 ∷ closed_row 16 16 ∷ []) (pos 0) (pos 320) 320
-unfolding readings ten_nothing miss spread reach flat_of
+unfolding readings ten_nothing miss greatest_reading greatest_estimate flat_of
 split_ends = record { low = refl; high = refl; width = refl }
 
 half_opened_ends : Has readings 0 32 (opened_row 0 16 ∷ closed_row 16 16 ∷ []) (pos 80) (pos 240) 160
-unfolding readings ten_nothing miss spread reach flat_of
+unfolding readings ten_nothing miss greatest_reading greatest_estimate flat_of
 half_opened_ends = record { low = refl; high = refl; width = refl }
 
 opened_ends : Has readings 0 32 (opened_row 0 16 ∷ opened_row 16 16 ∷ []) (pos 160) (pos 160) 0
-unfolding readings ten_nothing miss spread reach flat_of
+unfolding readings ten_nothing miss greatest_reading greatest_estimate flat_of
 opened_ends = record { low = refl; high = refl; width = refl }
 
 -- a part of a node is charged with the whole node
 part_ends : Has readings 3 5 (closed_row 0 32 ∷ []) (negsuc 149) (pos 170) 320
-unfolding readings ten_nothing miss spread reach flat_of
+unfolding readings ten_nothing miss greatest_reading greatest_estimate flat_of
 part_ends = record { low = refl; high = refl; width = refl }
 
 -- a mean below 0 and a mean between two units are rounded down, and so is the estimate
 below_zero : Has (negsuc 0 ∷ pos 0 ∷ []) 0 2 (closed_row 0 2 ∷ []) (negsuc 1) (pos 0) 2
-unfolding miss spread reach flat_of
+unfolding miss greatest_reading greatest_estimate flat_of
 below_zero = record { low = refl; high = refl; width = refl }
 
 thirds : Has (pos 0 ∷ pos 0 ∷ pos 1 ∷ []) 0 3 (closed_row 0 3 ∷ []) (pos 0) (pos 2) 2
-unfolding miss spread reach flat_of
+unfolding miss greatest_reading greatest_estimate flat_of
 thirds = record { low = refl; high = refl; width = refl }
 
 alone : Has (pos 7 ∷ []) 0 1 (closed_row 0 1 ∷ []) (pos 7) (pos 7) 0
-unfolding miss spread reach flat_of
+unfolding miss greatest_reading greatest_estimate flat_of
 alone = record { low = refl; high = refl; width = refl }
 
 none : Has [] 0 0 [] (pos 0) (pos 0) 0

@@ -6,12 +6,12 @@ use Rattle.std.proofs.lemmas.List.Elements.{All-get_or}
 use Rattle.std.proofs.Math.ListN.{get_or-map}
 use Rattle.semantics.specs.Readings.{reading}
 use Rattle.segment.specs.declared.segments.Seg.{Seg}
-use Rattle.segment.specs.Measure.{IsSane, spread}
+use Rattle.segment.specs.Measure.{IsSane, greatest_reading}
 use Rattle.segment.specs.Nodes.{Forest, Place, root_place, left_of, right_of, seg_at, readings_at, tree_in, known_root}
 use Rattle.segment.specs.Shape.{fork, plan, IsSplit}
 use Rattle.segment.specs.Tree.{SegTree, readings_of, root_of, plan_of, IsPartOf}
 use Rattle.segment.proofs.PartLaws.{part_self, part_left, part_right, root-true}
-use Rattle.segment.proofs.SanityLaws.{magnitude-le, spread-part}
+use Rattle.segment.proofs.SanityLaws.{magnitude-le, greatest_reading-part}
 use Rattle.segment.proofs.ShapeLaws.{plan-fork, split_exists}
 use Rattle.seg_tree.specs.declared.nodes.Node.{Node}
 use Rattle.seg_tree.specs.declared.arena.Tree.{Tree}
@@ -118,7 +118,7 @@ leaf_node s id p h few =
     let xs = kept (node_at s.nodes id).below in
     let here : take p.range.len (drop p.range.start (readings_of h.tree)) ≡ take p.range.len xs = over.readings ∙ ap readings_of at.content in
     let long : length (take p.range.len xs) ≡ p.range.len = ap length (sym (ap readings_of at.content)) ∙ over.long in
-    let most : (root_of h.tree).d ≡ spread (readings_of h.tree) = ap (λ (g : Seg). g.d) (root-true h.tree has.over.all_true).measured in
+    let most : (root_of h.tree).d ≡ greatest_reading (readings_of h.tree) = ap (λ (g : Seg). g.d) (root-true h.tree has.over.all_true).measured in
     record {
       at_end = subst (λ n. IsLeaf n (node_at s.nodes id).below) (sym (node_is s id p h).spans) at.at_end;
       readings = λ forest means. rw (means.same, h.found) (sym here);
@@ -126,8 +126,8 @@ leaf_node s id p h few =
           let same : root_of h.tree ≡ g = cc (has.rooted) in
           let d : (root_of h.tree).d ≡ g.d = ap (λ (x : Seg). x.d) same in
           let part = magnitude-le (take p.range.len xs) i (omega arith) in
-          let whole = spread-part (readings_of h.tree) p.range.start p.range.len in
-          let sizes : spread (take p.range.len (drop p.range.start (readings_of h.tree))) ≡ spread (take p.range.len xs) = ap spread here in
+          let whole = greatest_reading-part (readings_of h.tree) p.range.start p.range.len in
+          let sizes : greatest_reading (take p.range.len (drop p.range.start (readings_of h.tree))) ≡ greatest_reading (take p.range.len xs) = ap greatest_reading here in
           let value : reading (take p.range.len xs) i ≡ reading xs i = get_or-take p.range.len xs i (pos 0) lt in
           let bound : unsigned_abs (reading (take p.range.len xs) i) ≤ g.d = omega arith in
           subst (λ z. unsigned_abs z ≤ g.d) value bound;

@@ -84,10 +84,13 @@ pub record AreMarked (old new : List Slot) (p : ℕ) (plan : Plan) : Type 0 wher
 pub marked-before : (ss : List Slot) (p : ℕ) (plan : Plan) → AreClosed ss → IsMarked ss p → IsLinked (map held ss) p plan → AreMarked ss ss p plan
 marked-before ss p plan closed on linked = record {
   nodes = refl;
-  marks = λ q. (λ m. inl m, λ m. elim m [
-    | inl was ↦ was
-    | inr h ↦ reached-marked ss p plan closed on linked q h
-  ]);
+  marks = λ q. (
+    λ m. inl m,
+    λ m. elim m [
+      | inl was ↦ was
+      | inr h ↦ reached-marked ss p plan closed on linked q h
+    ],
+  );
   closed = closed;
 }
 
@@ -173,12 +176,12 @@ pub unmarked-closed : (ss : List Slot) → NoMarks ss → AreClosed ss
 unmarked-closed ss h = λ p on forks. absurd (none-marked ss p h on)
 
 pub reached-push : (nodes : Places) (ts : List Tree) (t : Tree) (q : ℕ) → IsReached nodes (ts ++ t ∷ []) q ↔ (IsReached nodes ts q ⊎ ReachesAt nodes t.root t.n q)
-reached-push nodes [] t q = (λ h. elim h [ | inl a ↦ inr a | inr b ↦ absurd b ], λ h. elim h [ | inl a ↦ absurd a | inr b ↦ inl b ])
+reached-push nodes [] t q = (λ h. elim h [ inl a ↦ inr a | inr b ↦ absurd b ], λ h. elim h [ inl a ↦ absurd a | inr b ↦ inl b ])
 reached-push nodes (u ∷ ts) t q =
     let rest = reached-push nodes ts t q in (
       λ h. elim h [
         | inl a ↦ inl (inl a)
-        | inr b ↦ elim (rest.0 b) [ | inl c ↦ inl (inr c) | inr d ↦ inr d ]
+        | inr b ↦ elim (rest.0 b) [ inl c ↦ inl (inr c) | inr d ↦ inr d ]
       ],
       λ h. elim h [
         | inl (inl a) ↦ inl a

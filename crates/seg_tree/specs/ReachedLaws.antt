@@ -1,4 +1,4 @@
--- What an arena's nodes are to the trees that reach them.
+-- What an arena's nodes are to the trees that reach them: what the laws of `ArenaNodes` cite, which may stand here alone.
 use Rattle.std.proofs.Common.{◌≡◌, ℕ, zero, suc, ◌<◌, List, [], ◌∷◌, length, map, get_or, Option, Some, None, refl, ap, ◌∙◌, sym, subst, arith}
 use Rattle.std.specs.List.{All}
 use Rattle.std.specs.Option.{option_map}

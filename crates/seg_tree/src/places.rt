@@ -75,7 +75,8 @@ impl Places {
         ensures nodes { self.new.nodes ≡ self.old.nodes }
         ensures ok { OnOk result (more ≤ self.new.spare) }
     {
-        self.slots.reserve(more.saturating_sub(self.vacancies) as usize)
+        self.slots
+            .reserve(more.saturating_sub(self.vacancies) as usize)
     }
 
     /// Puts a node at a vacant place, and answers the place.

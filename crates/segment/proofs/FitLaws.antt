@@ -13,7 +13,7 @@ use Rattle.power_sum.specs.Totals.{power_total}
 use Rattle.semantics.proofs.PowerLaws.{pow-2, pow-3}
 use Rattle.segment.specs.declared.curves.Curve.{Curve}
 use Rattle.semantics.specs.Readings.{reading}
-use Rattle.segment.specs.Measure.{unit, coefficient_bound, magnitude_at, miss, spread, is_bounded, IsBounded, IsTrueOf}
+use Rattle.segment.specs.Measure.{unit, coefficient_bound, magnitude_at, miss, greatest_reading, is_bounded, IsBounded, IsTrueOf}
 use Rattle.segment.specs.Fit.{scaled, straightened, moment_at, in_block, kept, better, flat_of, line_of, parabola_of, with_line, with_parabola, best_curve, fit_of}
 
 pub in_block-all : (xs : List ℤ) (n : ℕ) → total_below (in_block xs 0) n ≡ total_below (reading xs) n
@@ -116,11 +116,11 @@ straight-le b n few h =
     let again : b * (n * n) * n * n ≤ 2 ^ 47 * 2 ^ 20 * 2 ^ 20 = mul-le-mul once few in
     (omega (arith, two, square, once), omega (arith, three, cube, again))
 
-pub total-le : (xs : List ℤ) (n : ℕ) → n ≤ length xs → unsigned_abs (total_below (reading xs) n) ≤ n * spread xs
-unfolding spread
+pub total-le : (xs : List ℤ) (n : ℕ) → n ≤ length xs → unsigned_abs (total_below (reading xs) n) ≤ n * greatest_reading xs
+unfolding greatest_reading
 total-le xs n within = abs-total_below (reading xs) n (most_below (magnitude_at xs) (length xs)) (λ i lt. most_below-at (magnitude_at xs) (length xs) i (omega arith))
 
-pub flat-le : (xs : List ℤ) → 0 < length xs → unsigned_abs (floor_of (pos unit *ℤ total_below (reading xs) (length xs)) (length xs)) ≤ unit * spread xs
+pub flat-le : (xs : List ℤ) → 0 < length xs → unsigned_abs (floor_of (pos unit *ℤ total_below (reading xs) (length xs)) (length xs)) ≤ unit * greatest_reading xs
 flat-le xs some = abs-floor_of _ _ _ some (omega (arith, unsigned_abs-mul (pos unit) (total_below (reading xs) (length xs)), total-le xs (length xs) (omega arith)))
 
 pub slope-fits : (s n : ℕ) → n ≤ 2 ^ 20 → s ≤ 2 ^ 93 → s * n ≤ 2 ^ 120
@@ -137,7 +137,7 @@ square_some n some = let square = mul-le-mul some some in omega (arith, square)
 
 -- ---- the fit is true of its readings
 
-flat-bounded : (xs : List ℤ) → 0 < length xs → IsBounded (flat_of xs) (length xs) (spread xs)
+flat-bounded : (xs : List ℤ) → 0 < length xs → IsBounded (flat_of xs) (length xs) (greatest_reading xs)
 unfolding flat_of
 flat-bounded xs some = record { constant = omega (arith, flat-le xs some); linear = omega arith; square = omega arith }
 
@@ -152,17 +152,17 @@ better-if xs n d p (Some q) f g = cond-bounded n d (nat_lt (miss q xs) (miss p x
 better-bounded : (xs : List ℤ) (n d : ℕ) (p q : Curve) → IsBounded p n d → IsBounded (better xs p (kept n d q)) n d
 better-bounded xs n d p q bounded = better-if xs n d p (kept n d q) bounded (kept-if n d q (kept n d q) refl)
 
-line-bounded : (xs : List ℤ) → 0 < length xs → IsBounded (with_line xs) (length xs) (spread xs)
+line-bounded : (xs : List ℤ) → 0 < length xs → IsBounded (with_line xs) (length xs) (greatest_reading xs)
 line-bounded xs some =
-    cond-bounded (length xs) (spread xs) (nat_le 2 (length xs)) (flat_of xs) (better xs (flat_of xs) (kept (length xs) (spread xs) (line_of xs))) (flat-bounded xs some)
-    (better-bounded xs (length xs) (spread xs) (flat_of xs) (line_of xs) (flat-bounded xs some))
+    cond-bounded (length xs) (greatest_reading xs) (nat_le 2 (length xs)) (flat_of xs) (better xs (flat_of xs) (kept (length xs) (greatest_reading xs) (line_of xs))) (flat-bounded xs some)
+    (better-bounded xs (length xs) (greatest_reading xs) (flat_of xs) (line_of xs) (flat-bounded xs some))
 
-parabola-bounded : (xs : List ℤ) → 0 < length xs → IsBounded (with_parabola xs) (length xs) (spread xs)
+parabola-bounded : (xs : List ℤ) → 0 < length xs → IsBounded (with_parabola xs) (length xs) (greatest_reading xs)
 parabola-bounded xs some =
-    cond-bounded (length xs) (spread xs) (nat_le 3 (length xs)) (with_line xs) (better xs (with_line xs) (kept (length xs) (spread xs) (parabola_of xs))) (line-bounded xs some)
-    (better-bounded xs (length xs) (spread xs) (with_line xs) (parabola_of xs) (line-bounded xs some))
+    cond-bounded (length xs) (greatest_reading xs) (nat_le 3 (length xs)) (with_line xs) (better xs (with_line xs) (kept (length xs) (greatest_reading xs) (parabola_of xs))) (line-bounded xs some)
+    (better-bounded xs (length xs) (greatest_reading xs) (with_line xs) (parabola_of xs) (line-bounded xs some))
 
-pub best-bounded : (degree : ℕ) (xs : List ℤ) → 0 < length xs → IsBounded (best_curve degree xs) (length xs) (spread xs)
+pub best-bounded : (degree : ℕ) (xs : List ℤ) → 0 < length xs → IsBounded (best_curve degree xs) (length xs) (greatest_reading xs)
 best-bounded zero xs some = flat-bounded xs some
 best-bounded (suc zero) xs some = line-bounded xs some
 best-bounded (suc (suc degree)) xs some = parabola-bounded xs some

@@ -7,7 +7,7 @@ use Rattle.std.proofs.lemmas.List.{take-append-le, drop-append-le}
 use Rattle.std.proofs.Math.Seq.{drop-append-add}
 use Rattle.std.proofs.lemmas.List.Elements.{Contains-append_left, Contains-append_right}
 use Rattle.segment.specs.declared.segments.Seg.{Seg}
-use Rattle.segment.specs.Measure.{IsTrueOf, IsSane, spread}
+use Rattle.segment.specs.Measure.{IsTrueOf, IsSane, greatest_reading}
 use Rattle.segment.specs.Nodes.{find_seg}
 use Rattle.segment.specs.Shape.{Range, room, plan, plan_below, ranges, shape}
 use Rattle.segment.specs.Tree.{SegTree, tip, node, readings_of, segs_of, root_of, plan_of, width, IsPartOf, AllTrue, IsTreeOver}
@@ -270,7 +270,7 @@ part-over n t part r over is_part shaped =
     let from : r.start ≡ (root_of part).start - 0 = omega (arith, starts) in
     let readings : take r.len (drop r.start (readings_of t)) ≡ readings_of part = ap₂ (λ l s. take l (drop s (readings_of t))) (sym long) from ∙ lies.readings in
     let part_true = root-true part (AllTrue-part t part over.all_true is_part) in
-    let most : (root_of t).d ≡ spread (readings_of t) = ap (λ (g : Seg). g.d) (root-true t over.all_true).measured in
+    let most : (root_of t).d ≡ greatest_reading (readings_of t) = ap (λ (g : Seg). g.d) (root-true t over.all_true).measured in
     record {
       starts = starts;
       spans = spans;

@@ -5,7 +5,7 @@ use Rattle.semantics.specs.Readings.{reading}
 use Rattle.semantics.specs.Sums.{total_below}
 use Rattle.segment.specs.declared.curves.Curve.{Curve}
 use Rattle.segment.specs.declared.segments.Seg.{Seg}
-use Rattle.segment.specs.Measure.{unit, is_bounded, miss, spread, seg_of}
+use Rattle.segment.specs.Measure.{unit, is_bounded, miss, greatest_reading, seg_of}
 use Rattle.segment.specs.Shape.{Range}
 
 -- a reading in the units of estimates
@@ -68,11 +68,11 @@ better xs p (Some q) = if nat_lt (miss q xs) (miss p xs) then q else p
 
 -- the best up to degree 1; a line takes two readings
 abbrev pub with_line : List ℤ → Curve
-with_line xs = if nat_le 2 (length xs) then better xs (flat_of xs) (kept (length xs) (spread xs) (line_of xs)) else flat_of xs
+with_line xs = if nat_le 2 (length xs) then better xs (flat_of xs) (kept (length xs) (greatest_reading xs) (line_of xs)) else flat_of xs
 
 -- the best up to degree 2; a parabola takes three readings
 abbrev pub with_parabola : List ℤ → Curve
-with_parabola xs = if nat_le 3 (length xs) then better xs (with_line xs) (kept (length xs) (spread xs) (parabola_of xs)) else with_line xs
+with_parabola xs = if nat_le 3 (length xs) then better xs (with_line xs) (kept (length xs) (greatest_reading xs) (parabola_of xs)) else with_line xs
 
 -- the curve of the fit: the least miss, the least degree on a tie
 abbrev pub best_curve : ℕ → List ℤ → Curve

@@ -20,20 +20,20 @@ miss_at p xs i = unsigned_abs (pos unit *ℤ reading xs i -ℤ estimate_at p i)
 abbrev pub magnitude_at : List ℤ → ℕ → ℕ
 magnitude_at xs i = unsigned_abs (reading xs i)
 
-abbrev pub reach_at : Curve → ℕ → ℕ
-reach_at p i = unsigned_abs (estimate_at p i)
+abbrev pub estimate_magnitude_at : Curve → ℕ → ℕ
+estimate_magnitude_at p i = unsigned_abs (estimate_at p i)
 
 -- the sum of all misses
 unfoldable pub miss : Curve → List ℤ → ℕ
 miss p xs = sum_below (miss_at p xs) (length xs)
 
 -- the greatest magnitude of a reading
-unfoldable pub spread : List ℤ → ℕ
-spread xs = most_below (magnitude_at xs) (length xs)
+unfoldable pub greatest_reading : List ℤ → ℕ
+greatest_reading xs = most_below (magnitude_at xs) (length xs)
 
 -- the greatest magnitude of an estimate
-unfoldable pub reach : Curve → ℕ → ℕ
-reach p n = most_below (reach_at p) n
+unfoldable pub greatest_estimate : Curve → ℕ → ℕ
+greatest_estimate p n = most_below (estimate_magnitude_at p) n
 
 -- readings within 10 ^ 9
 abbrev pub AreReadings : List ℤ → Type 0
@@ -55,7 +55,7 @@ is_bounded p n d = nat_le (unsigned_abs p.a) (coefficient_bound d) && nat_le (un
 
 -- the segment with this curve that is true of the readings
 abbrev pub seg_of : ℕ → Curve → List ℤ → Seg
-seg_of start p xs = record { start = start; len = length xs; a = p.a; b = p.b; c = p.c; l = miss p xs; d = spread xs; f = reach p (length xs) }
+seg_of start p xs = record { start = start; len = length xs; a = p.a; b = p.b; c = p.c; l = miss p xs; d = greatest_reading xs; f = greatest_estimate p (length xs) }
 
 abbrev pub curve_of : Seg → Curve
 curve_of s = record { a = s.a; b = s.b; c = s.c }
@@ -63,7 +63,7 @@ curve_of s = record { a = s.a; b = s.b; c = s.c }
 -- the segment is true of the readings
 pub record IsTrueOf (xs : List ℤ) (s : Seg) : Type 0 where
   pub measured : s ≡ seg_of s.start (curve_of s) xs
-  pub bounded : IsBounded (curve_of s) (length xs) (spread xs)
+  pub bounded : IsBounded (curve_of s) (length xs) (greatest_reading xs)
 
 -- the exact segment of one reading
 abbrev pub unit_seg : ℕ → ℤ → Seg
@@ -79,4 +79,4 @@ pub record IsSane (s : Seg) (root_d : ℕ) : Type 0 where
 
 -- every true segment of a part of a series is sane for the greatest magnitude of the series
 abbrev pub EveryTrueIsSane : Type 0
-EveryTrueIsSane = (xs : List ℤ) (from len : ℕ) (s : Seg) → AreReadings xs → IsTrueOf (take len (drop from xs)) s → IsSane s (spread xs)
+EveryTrueIsSane = (xs : List ℤ) (from len : ℕ) (s : Seg) → AreReadings xs → IsTrueOf (take len (drop from xs)) s → IsSane s (greatest_reading xs)

@@ -2,11 +2,11 @@ ghost use Rattle.std.specs.Prelude.{◌≡◌, ◌+◌, ◌-◌, ◌*◌, ◌/�
 ghost use Rattle.semantics.specs.Quotients.{floor_of};
 ghost use Rattle.semantics.specs.Sums.{total_below};
 ghost use Rattle.semantics.specs.Readings.{reading};
-ghost use Rattle.segment.specs.Measure.{unit, miss, spread, coefficient_bound, AreReadings, IsBounded, IsTrueOf};
+ghost use Rattle.segment.specs.Measure.{unit, miss, greatest_reading, coefficient_bound, AreReadings, IsBounded, IsTrueOf};
 ghost use Rattle.segment.specs.Fit.{in_block, block_of, bend_of, scaled, straightened, moment_at, slope_by, level_by, curve_by, flat_of, line_of, parabola_of, kept, better, with_line, with_parabola, fit_of};
 
 use crate::curves::{UNITS, at, plus};
-use crate::measures::{miss_of, reach_of, spread_of};
+use crate::measures::{greatest_estimate, greatest_reading, miss_of};
 use crate::sanity::greatest_coefficient;
 use crate::{Curve, Seg};
 use power_sum::power;
@@ -27,13 +27,13 @@ pub fn fit(xs: &[i32], start: u32, degree: u8) -> Seg
     ensures fit { result ≡ fit_of degree start xs.now }
     ensures true_of { IsTrueOf xs.now result }
 {
-    let d = spread_of(xs);
+    let d = greatest_reading(xs);
     let best = match degree {
         0 => level_fit(xs),
         1 => line_fit(xs, d),
         _ => parabola_fit(xs, d),
     };
-    let f = reach_of(&best.curve, xs.len());
+    let f = greatest_estimate(&best.curve, xs.len());
     Seg {
         start,
         len: xs.len() as u32,
@@ -51,11 +51,11 @@ fn parabola_fit(xs: &[i32], d: u64) -> Ranked
     requires some { 0 < length xs.now }
     requires few { length xs.now ≤ 2 ^ 20 }
     requires small { AreReadings xs.now }
-    requires most { d ≡ spread xs.now }
+    requires most { d ≡ greatest_reading xs.now }
     requires magnitude { d ≤ 10 ^ 9 }
     ensures curve { result.curve ≡ with_parabola xs.now }
     ensures miss { result.miss ≡ miss result.curve xs.now }
-    ensures bounded { IsBounded result.curve (length xs.now) (spread xs.now) }
+    ensures bounded { IsBounded result.curve (length xs.now) (greatest_reading xs.now) }
 {
     let lower = line_fit(xs, d);
     if xs.len() < 3 {
@@ -70,11 +70,11 @@ fn line_fit(xs: &[i32], d: u64) -> Ranked
     requires some { 0 < length xs.now }
     requires few { length xs.now ≤ 2 ^ 20 }
     requires small { AreReadings xs.now }
-    requires most { d ≡ spread xs.now }
+    requires most { d ≡ greatest_reading xs.now }
     requires magnitude { d ≤ 10 ^ 9 }
     ensures curve { result.curve ≡ with_line xs.now }
     ensures miss { result.miss ≡ miss result.curve xs.now }
-    ensures bounded { IsBounded result.curve (length xs.now) (spread xs.now) }
+    ensures bounded { IsBounded result.curve (length xs.now) (greatest_reading xs.now) }
 {
     let lower = level_fit(xs);
     if xs.len() < 2 {
@@ -91,7 +91,7 @@ fn level_fit(xs: &[i32]) -> Ranked
     requires small { AreReadings xs.now }
     ensures curve { result.curve ≡ flat_of xs.now }
     ensures miss { result.miss ≡ miss result.curve xs.now }
-    ensures bounded { IsBounded result.curve (length xs.now) (spread xs.now) }
+    ensures bounded { IsBounded result.curve (length xs.now) (greatest_reading xs.now) }
 {
     let curve = flat(xs);
     let miss = miss_of(xs, &curve);
@@ -103,11 +103,11 @@ fn better_of(xs: &[i32], best: Ranked, other: Option<Curve>) -> Ranked
     requires few { length xs.now ≤ 2 ^ 20 }
     requires small { AreReadings xs.now }
     requires miss { best.miss ≡ miss best.curve xs.now }
-    requires bounded { IsBounded best.curve (length xs.now) (spread xs.now) }
-    requires other { IfSome other (λ q. IsBounded q (length xs.now) (spread xs.now)) }
+    requires bounded { IsBounded best.curve (length xs.now) (greatest_reading xs.now) }
+    requires other { IfSome other (λ q. IsBounded q (length xs.now) (greatest_reading xs.now)) }
     ensures curve { result.curve ≡ better xs.now best.curve other }
     ensures miss { result.miss ≡ miss result.curve xs.now }
-    ensures bounded { IsBounded result.curve (length xs.now) (spread xs.now) }
+    ensures bounded { IsBounded result.curve (length xs.now) (greatest_reading xs.now) }
 {
     let Some(curve) = other else { return best };
     let miss = miss_of(xs, &curve);
@@ -124,7 +124,7 @@ fn flat(xs: &[i32]) -> Curve
     requires few { length xs.now ≤ 2 ^ 20 }
     requires small { AreReadings xs.now }
     ensures curve { result ≡ flat_of xs.now }
-    ensures bounded { IsBounded result (length xs.now) (spread xs.now) }
+    ensures bounded { IsBounded result (length xs.now) (greatest_reading xs.now) }
 {
     let a = mean(total(xs, 0, xs.len()), xs.len());
     Curve { a, b: 0, c: 0 }
@@ -135,10 +135,10 @@ fn line(xs: &[i32], d: u64) -> Option<Curve>
     requires some { 2 ≤ length xs.now }
     requires few { length xs.now ≤ 2 ^ 20 }
     requires small { AreReadings xs.now }
-    requires most { d ≡ spread xs.now }
+    requires most { d ≡ greatest_reading xs.now }
     requires magnitude { d ≤ 10 ^ 9 }
     ensures curve { result ≡ kept (length xs.now) d (line_of xs.now) }
-    ensures bounded { IfSome result (λ q. IsBounded q (length xs.now) (spread xs.now)) }
+    ensures bounded { IfSome result (λ q. IsBounded q (length xs.now) (greatest_reading xs.now)) }
 {
     let n = xs.len();
     let sum = scaled_total(xs);
@@ -151,10 +151,10 @@ fn parabola(xs: &[i32], d: u64) -> Option<Curve>
     requires some { 3 ≤ length xs.now }
     requires few { length xs.now ≤ 2 ^ 20 }
     requires small { AreReadings xs.now }
-    requires most { d ≡ spread xs.now }
+    requires most { d ≡ greatest_reading xs.now }
     requires magnitude { d ≤ 10 ^ 9 }
     ensures curve { result ≡ kept (length xs.now) d (parabola_of xs.now) }
-    ensures bounded { IfSome result (λ q. IsBounded q (length xs.now) (spread xs.now)) }
+    ensures bounded { IfSome result (λ q. IsBounded q (length xs.now) (greatest_reading xs.now)) }
 {
     let n = xs.len();
     let bend = bend(xs);

@@ -1,24 +1,27 @@
 ghost use Rattle.std.specs.Prelude.{◌≡◌, ◌+◌, ◌*◌, ◌^◌, ◌<◌, ◌≤◌, pos, ◌*ℤ◌, ◌+ℤ◌, ◌-ℤ◌, length, unsigned_abs, [], ◌∷◌};
-ghost use Rattle.segment.specs.Measure.{unit, miss, spread, reach, unit_seg, AreReadings, IsBounded, IsTrueOf};
+ghost use Rattle.segment.specs.Measure.{unit, miss, greatest_reading, greatest_estimate, unit_seg, AreReadings, IsBounded, IsTrueOf};
 
 use crate::curves::UNITS;
 use crate::{Curve, Measures, Seg};
+
+/// The most that a reading may come to.
+pub const GREATEST_READING: u32 = 1_000_000_000;
 
 /// The measures of the curve `a + b * i + c * i ^ 2` over the readings.
 pub fn measure(xs: &[i32], a: i64, b: i64, c: i64) -> Measures
     requires some { 0 < length xs.now }
     requires few { length xs.now ≤ 2 ^ 20 }
     requires small { AreReadings xs.now }
-    requires bounded { IsBounded record { a = a; b = b; c = c } (length xs.now) (spread xs.now) }
+    requires bounded { IsBounded record { a = a; b = b; c = c } (length xs.now) (greatest_reading xs.now) }
     ensures miss { result.l ≡ miss record { a = a; b = b; c = c } xs.now }
-    ensures spread { result.d ≡ spread xs.now }
-    ensures reach { result.f ≡ reach record { a = a; b = b; c = c } (length xs.now) }
+    ensures greatest_reading { result.d ≡ greatest_reading xs.now }
+    ensures greatest_estimate { result.f ≡ greatest_estimate record { a = a; b = b; c = c } (length xs.now) }
 {
     let curve = Curve { a, b, c };
     Measures {
         l: miss_of(xs, &curve),
-        d: spread_of(xs),
-        f: reach_of(&curve, xs.len()),
+        d: greatest_reading(xs),
+        f: greatest_estimate(&curve, xs.len()),
     }
 }
 
@@ -44,7 +47,7 @@ pub fn unit(x: i32, start: u32) -> Seg
 pub(crate) fn miss_of(xs: &[i32], curve: &Curve) -> u128
     requires few { length xs.now ≤ 2 ^ 20 }
     requires small { AreReadings xs.now }
-    requires bounded { IsBounded curve.now (length xs.now) (spread xs.now) }
+    requires bounded { IsBounded curve.now (length xs.now) (greatest_reading xs.now) }
     ensures value { result ≡ miss curve.now xs.now }
 {
     let mut sum = 0u128;
@@ -54,11 +57,9 @@ pub(crate) fn miss_of(xs: &[i32], curve: &Curve) -> u128
     sum
 }
 
-/// The greatest magnitude of a reading.
-pub(crate) fn spread_of(xs: &[i32]) -> u64
-    requires small { AreReadings xs.now }
-    ensures value { result ≡ spread xs.now }
-    ensures bound { result ≤ 10 ^ 9 }
+/// The greatest magnitude of a reading, or 0 where there is none.
+pub fn greatest_reading(xs: &[i32]) -> u64
+    ensures { result ≡ greatest_reading xs.now }
 {
     let mut most = 0u32;
     for i in 0..xs.len() {
@@ -68,10 +69,10 @@ pub(crate) fn spread_of(xs: &[i32]) -> u64
 }
 
 /// The greatest magnitude of an estimate over `n` places.
-pub(crate) fn reach_of(curve: &Curve, n: usize) -> u64
+pub(crate) fn greatest_estimate(curve: &Curve, n: usize) -> u64
     requires few { n ≤ 2 ^ 20 }
     requires bounded { IsBounded curve.now n (10 ^ 9) }
-    ensures value { result ≡ reach curve.now n }
+    ensures value { result ≡ greatest_estimate curve.now n }
 {
     let mut most = 0u64;
     for i in 0..n {

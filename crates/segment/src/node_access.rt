@@ -45,7 +45,7 @@ pub trait Nodes {
     /// That an id stands for the node at a place.
     ghost stands: { Self → Self.Source → Self.Id → Place → Type 0 };
 
-    /// For each series the root's segment, where it is known.
+    /// For each series the root's segment, where it is known. They are as many as the series, as `count` says.
     ghost roots: { Self → List (Option Seg) };
 
     /// The bytes that the source handed out, where it tells them.
@@ -61,7 +61,8 @@ pub trait Nodes {
 
     /// How many series there are.
     fn count(&self) -> u32
-        ensures { result ≡ length (lengths self.now) };
+        ensures value { result ≡ length (lengths self.now) }
+        ensures rooted { length (roots self.now) ≡ length (lengths self.now) };
 
     /// How many readings a series has.
     fn readings_len(&self, series: u32) -> u32

@@ -1,8 +1,9 @@
 ghost use Rattle.std.specs.Prelude.{◌≡◌, ◌*◌, ◌^◌, ◌≤◌, ◌↔◌, max, IsTrue};
 ghost use Rattle.segment.specs.Measure.{unit, coefficient_bound, curve_of, IsBounded, IsSane, EveryTrueIsSane};
 
-use crate::Seg;
 use crate::curves::UNITS;
+use crate::measures::GREATEST_READING;
+use crate::{Curve, Seg};
 
 /// Whether a segment keeps the bounds that every true segment keeps, where no reading of its series has a greater
 /// magnitude than `root_d`.
@@ -11,22 +12,27 @@ pub fn is_sane(s: &Seg, root_d: u64) -> bool
 {
     let most = u128::from(s.d.max(1));
     let len = u128::from(s.len);
-    is_bounded(s)
+    let curve = Curve {
+        a: s.a,
+        b: s.b,
+        c: s.c,
+    };
+    is_bounded(&curve, s.len, s.d)
         && s.d <= root_d
-        && root_d <= 1_000_000_000
+        && root_d <= u64::from(GREATEST_READING)
         && u128::from(s.f) <= 24 * u128::from(UNITS) * most
         && s.l <= 25 * u128::from(UNITS) * most * len
 }
 
-/// Whether a segment's coefficients keep their bound.
-fn is_bounded(s: &Seg) -> bool
-    ensures { IsTrue result ↔ IsBounded (curve_of s.now) s.now.len s.now.d }
+/// Whether the coefficients of a curve over `n` readings of magnitude at most `d` keep their bound.
+pub fn is_bounded(curve: &Curve, n: u32, d: u64) -> bool
+    ensures { IsTrue result ↔ IsBounded curve.now n d }
 {
-    let most = greatest_coefficient(s.d);
-    let len = u128::from(s.len);
-    u128::from(s.a.unsigned_abs()) <= most
-        && u128::from(s.b.unsigned_abs()) * len <= most
-        && u128::from(s.c.unsigned_abs()) * (len * len) <= most
+    let most = greatest_coefficient(d);
+    let n = u128::from(n);
+    u128::from(curve.a.unsigned_abs()) <= most
+        && u128::from(curve.b.unsigned_abs()) * n <= most
+        && u128::from(curve.c.unsigned_abs()) * (n * n) <= most
 }
 
 /// The most that a coefficient may come to over readings of magnitude at most `d`.

@@ -9,7 +9,7 @@ fn are_readings(xs: &[i32]) -> bool
     ensures { result ≡ true → AreReadings xs.now }
 {
     for x in xs {
-        if x.unsigned_abs() > 1_000_000_000 {
+        if x.unsigned_abs() > GREATEST_READING {
             return false;
         }
     }
@@ -65,6 +65,15 @@ fn fits_of_degree_2(rt: HostRuntime) {
         (squares.len, squares.l, squares.d, squares.f),
         (9, 0, 64, 1048576)
     );
+
+    // a line misses as much as the mean, and a parabola breaks the bound: the lower degree stays
+    for degree in 0..=2u8 {
+        let tied = fitted(&rt, &[-1, 1, 0], degree);
+        assert_eq!(rt; (tied.a, tied.b, tied.c, tied.l), (0, 0, 0, 32768));
+    }
+    // of 4 readings the last is in none of the three blocks
+    let four = fitted(&rt, &[0, 1, 4, 9], 2);
+    assert_eq!(rt; (four.a, four.b, four.c, four.l), (0, 0, 16384, 0));
 
     let line = fitted(&rt, &line(), 2);
     assert_eq!(rt; (line.a, line.b, line.c, line.l), (163840, 49152, 0, 0));

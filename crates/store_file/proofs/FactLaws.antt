@@ -8,11 +8,11 @@ use Rattle.semantics.specs.Admission as admission
 use Rattle.expr.specs.Facts.{fact_of, facts_of}
 use Rattle.expr.specs.declared.facts.Fact.{Fact}
 use Rattle.segment.specs.declared.segments.Seg.{Seg}
-use Rattle.segment.specs.Measure.{AreReadings, spread}
+use Rattle.segment.specs.Measure.{AreReadings, greatest_reading}
 use Rattle.segment.specs.Nodes.{IsSeriesTree, find_seg, root_place, seg_at}
 use Rattle.segment.specs.Shape.{plan}
 use Rattle.segment.specs.Tree.{SegTree, tip, node, all_readings, IsTreeOver, readings_of, root_of, segs_of}
-use Rattle.segment.proofs.Bounds.{spread-le}
+use Rattle.segment.proofs.Bounds.{greatest_reading-le}
 use Rattle.segment.proofs.PartLaws.{root-true, start-plan, span-plan}
 use Rattle.segment.proofs.ReadingLaws.{AreReadings-nil}
 use Rattle.seg_tree.specs.Linked.{Places, tree_at}
@@ -39,7 +39,7 @@ small-facts : (ss : List Series) → EachTree ss → All IsSmallFact (map fact_i
 small-facts [] each = All-nil IsSmallFact
 small-facts (s ∷ ss) each =
     All-cons IsSmallFact (fact_in s) (map fact_in ss)
-    (record { count = few-readings (count_of s) s.tree each.0; greatest = spread-le (all_readings s.tree) (small-readings (count_of s) s.tree each.0) })
+    (record { count = few-readings (count_of s) s.tree each.0; greatest = greatest_reading-le (all_readings s.tree) (small-readings (count_of s) s.tree each.0) })
     (small-facts ss each.1)
 
 names-facts : (ss : List Series) → map fact_name (map fact_in ss) ≡ map name_of ss
@@ -69,28 +69,28 @@ find-root : (t : SegTree) (n : ℕ) → (root_of t).start ≡ 0 → (root_of t).
 find-root (tip g xs) n starts spans = whole-range g n [] starts spans
 find-root (node g l r) n starts spans = whole-range g n (segs_of l ++ segs_of r) starts spans
 
-greatest-root : (n : ℕ) (t : SegTree) (g : Seg) → IsTreeOver n t → find_seg (segs_of t) (record { start = 0; len = n }) ≡ Some g → g.d ≡ spread (readings_of t)
+greatest-root : (n : ℕ) (t : SegTree) (g : Seg) → IsTreeOver n t → find_seg (segs_of t) (record { start = 0; len = n }) ≡ Some g → g.d ≡ greatest_reading (readings_of t)
 greatest-root n t g over found =
     let some : Some (root_of t) ≡ Some g = sym (find-root t n (start-plan 0 n t over.shaped) (span-plan 0 n t over.shaped)) ∙ found in
     let same : root_of t ≡ g = cc in
     sym (ap (λ (s : Seg). s.d) same) ∙ ap (λ (s : Seg). s.d) (root-true t over.all_true).measured
 
-pub greatest-some : (nodes : Places) (t : Tree) (g : Seg) → IsTreeOf nodes t → seg_at (value_of nodes t ∷ []) (root_place 0 t.n) ≡ Some g → g.d ≡ spread (all_readings (value_of nodes t))
+pub greatest-some : (nodes : Places) (t : Tree) (g : Seg) → IsTreeOf nodes t → seg_at (value_of nodes t ∷ []) (root_place 0 t.n) ≡ Some g → g.d ≡ greatest_reading (all_readings (value_of nodes t))
 greatest-some nodes t g is found = by t.root t.n is found
   where
-    by : (root : Option ℕ) (n : ℕ) → IsTreeAt nodes root n → seg_at (value_at nodes root n ∷ []) (root_place 0 n) ≡ Some g → g.d ≡ spread (all_readings (value_at nodes root n))
+    by : (root : Option ℕ) (n : ℕ) → IsTreeAt nodes root n → seg_at (value_at nodes root n ∷ []) (root_place 0 n) ≡ Some g → g.d ≡ greatest_reading (all_readings (value_at nodes root n))
     by None n is found = cc
     by (Some p) n is found = greatest-root n (tree_at nodes p (plan 0 n)) g is.1 found
 
-spread-nil : spread [] ≡ 0
-unfolding spread
-spread-nil = refl
+greatest_reading-nil : greatest_reading [] ≡ 0
+unfolding greatest_reading
+greatest_reading-nil = refl
 
-pub greatest-none : (nodes : Places) (t : Tree) → IsTreeOf nodes t → t.n ≡ 0 → 0 ≡ spread (all_readings (value_of nodes t))
+pub greatest-none : (nodes : Places) (t : Tree) → IsTreeOf nodes t → t.n ≡ 0 → 0 ≡ greatest_reading (all_readings (value_of nodes t))
 greatest-none nodes t is none = by t.root t.n is none
   where
-    by : (root : Option ℕ) (n : ℕ) → IsTreeAt nodes root n → n ≡ 0 → 0 ≡ spread (all_readings (value_at nodes root n))
-    by None n is none = sym spread-nil
+    by : (root : Option ℕ) (n : ℕ) → IsTreeAt nodes root n → n ≡ 0 → 0 ≡ greatest_reading (all_readings (value_at nodes root n))
+    by None n is none = sym greatest_reading-nil
     by (Some p) n is none = absurd (omega (arith, is.1.some, none))
 
 -- the same, where the nodes are those of this one tree
@@ -111,7 +111,7 @@ facts_of-push (x ∷ facts) f = ap (λ q. fact_of x ∷ q) (facts_of-push facts 
 pub record IsFactOf (nodes : Places) (e : List ℕ × Stored) (f : Fact) : Type 0 where
   pub name : f.name ≡ e.0
   pub count : f.n ≡ e.1.tree.n
-  pub greatest : f.d ≡ spread (all_readings (value_of nodes e.1.tree))
+  pub greatest : f.d ≡ greatest_reading (all_readings (value_of nodes e.1.tree))
 
 fact-entry : (nodes : Places) (e : List ℕ × Stored) (f : Fact) → IsTreeOf nodes e.1.tree → IsFactOf nodes e f → fact_of f ≡ fact_in (record { name = e.0; tree = value_of nodes e.1.tree })
 fact-entry nodes e f is fact =

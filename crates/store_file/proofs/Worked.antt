@@ -1,7 +1,7 @@
 -- The bytes of small stores, computed.
 use Rattle.std.proofs.Common.{◌≡◌, ℕ, List, [], ◌∷◌, codes, Some, length, take, drop, refl, ap, ap₂, ◌∙◌, arith}
 use Rattle.segment.specs.Fit.{flat_of, line_of, parabola_of}
-use Rattle.segment.specs.Measure.{miss, reach, spread}
+use Rattle.segment.specs.Measure.{miss, greatest_estimate, greatest_reading}
 use Rattle.segment.specs.Shape.{Plan, leaf, fork, plan, plan_below}
 use Rattle.segment.specs.Tree.{fits}
 use Rattle.segment.proofs.ShapeLaws.{plan-leaf, plan-fork}
@@ -11,7 +11,7 @@ use Rattle.store_file.specs.StoreValue.{StoreValue, header_of, store_image}
 use Rattle.store_file.specs.Worked.{store_with, turns, OneReadingHasBytes, TurnsHaveBytes}
 
 pub one-reading : OneReadingHasBytes
-unfolding store_image header_of record_of bytes_of wrapped flat_of line_of parabola_of miss reach spread plan plan_below
+unfolding store_image header_of record_of bytes_of wrapped flat_of line_of parabola_of miss greatest_estimate greatest_reading plan plan_below
 one-reading = refl
 
 -- two leaves below a root
@@ -39,9 +39,9 @@ unfolding turns_image
 image-turns = ap store_image (turns-by ∙ ap turns_by plan-two_blocks)
 
 turns-len : length turns_image ≡ 310
-unfolding turns_image two_blocks turns_by store_image header_of record_of bytes_of wrapped flat_of miss reach spread
+unfolding turns_image two_blocks turns_by store_image header_of record_of bytes_of wrapped flat_of miss greatest_estimate greatest_reading
 turns-len = refl
 
 pub turns-bytes : TurnsHaveBytes
-unfolding turns_image two_blocks turns_by store_image header_of record_of bytes_of wrapped flat_of miss reach spread
+unfolding turns_image two_blocks turns_by store_image header_of record_of bytes_of wrapped flat_of miss greatest_estimate greatest_reading
 turns-bytes = record { len = ap length image-turns ∙ turns-len; root = ap (λ q. take 56 (drop 14 q)) image-turns }

@@ -1,13 +1,13 @@
 -- What is known of the series of a store.
 use Rattle.std.specs.Prelude.{ℕ, ◌^◌, ◌≤◌, List, [], length, map, All}
 use Rattle.semantics.specs.Admission.{Fact}
-use Rattle.segment.specs.Measure.{spread}
+use Rattle.segment.specs.Measure.{greatest_reading}
 use Rattle.segment.specs.Tree.{all_readings}
 use Rattle.store_file.specs.StoreValue.{Series, StoreValue, IsStoreValue, AreNames, count_of}
 
 -- the name, the count of readings and the greatest absolute one
 abbrev pub fact_in : Series → Fact
-fact_in s = record { name = s.name; count = count_of s; greatest = spread (all_readings s.tree) }
+fact_in s = record { name = s.name; count = count_of s; greatest = greatest_reading (all_readings s.tree) }
 
 -- those of all series, in order
 abbrev pub facts_in : StoreValue → List Fact

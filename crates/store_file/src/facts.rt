@@ -2,7 +2,7 @@
 
 ghost use Rattle.std.specs.Prelude.{◌≡◌, ◌≤◌, ◌^◌, IfOk};
 ghost use Rattle.expr.specs.Facts.{facts_of};
-ghost use Rattle.segment.specs.Measure.{spread};
+ghost use Rattle.segment.specs.Measure.{greatest_reading};
 ghost use Rattle.segment.specs.Tree.{all_readings};
 ghost use Rattle.seg_tree.specs.Trees.{IsTreeOf, value_of};
 ghost use Rattle.store_file.specs.Facts.{AreFacts, facts_in};
@@ -41,7 +41,7 @@ impl Store {
 /// The greatest absolute reading of a tree, 0 where it has none.
 fn greatest_in(arena: &Arena, tree: Tree) -> u64
     requires { IsTreeOf arena.now.nodes tree }
-    ensures { result ≡ spread (all_readings (value_of arena.now.nodes tree)) }
+    ensures { result ≡ greatest_reading (all_readings (value_of arena.now.nodes tree)) }
 {
     let trees = [tree];
     let mut nodes = ArenaNodes::new(arena, &trees);

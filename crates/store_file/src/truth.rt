@@ -1,12 +1,9 @@
 ghost use Rattle.std.specs.Prelude.{◌≡◌, ◌^◌, ◌<◌, ◌≤◌, length};
 ghost use Rattle.std.specs.List.{All, find};
-ghost use Rattle.segment.specs.Measure.{spread, curve_of, is_bounded, AreReadings, IsBounded};
+ghost use Rattle.segment.specs.Measure.{greatest_reading, curve_of, is_bounded, AreReadings, IsBounded};
 ghost use Rattle.store_file.specs.Good.{is_measured, is_good, own_readings, is_bad, IsOver};
 
-use segment::{Measures, Seg, measure};
-
-/// The most that a reading may come to.
-const MOST: u64 = 1_000_000_000;
+use segment::{Curve, GREATEST_READING, Measures, Seg, greatest_reading, is_bounded, measure};
 
 /// The first segment that isn't true of its readings, of those of its series.
 pub(crate) fn first_bad(segs: &[Seg], xs: &[i32]) -> Option<Seg>
@@ -41,38 +38,19 @@ fn is_good(seg: &Seg, xs: &[i32]) -> bool
     requires len { seg.now.len ≡ length xs.now }
     ensures { result ≡ is_good xs.now seg.now }
 {
-    let d = spread_of(xs);
-    if d > MOST {
+    let d = greatest_reading(xs);
+    if d > u64::from(GREATEST_READING) {
         return false;
     }
-    if !keeps_bound(seg, xs.len(), d) {
+    let curve = Curve {
+        a: seg.a,
+        b: seg.b,
+        c: seg.c,
+    };
+    if !is_bounded(&curve, seg.len, d) {
         return false;
     }
     is_measured(seg, xs)
-}
-
-/// The greatest magnitude of the readings.
-fn spread_of(xs: &[i32]) -> u64
-    ensures { result ≡ spread xs.now }
-{
-    let mut most = 0u32;
-    for i in 0..xs.len() {
-        most = most.max(xs[i].unsigned_abs());
-    }
-    u64::from(most)
-}
-
-/// Whether the coefficients of a segment over `n` readings of magnitude at most `d` keep their bound.
-fn keeps_bound(seg: &Seg, n: usize, d: u64) -> bool
-    requires few { n ≤ 2 ^ 20 }
-    requires most { d ≤ 10 ^ 9 }
-    ensures { result ≡ is_bounded (curve_of seg.now) n d }
-{
-    let most = 131_072 * u128::from(d.max(1));
-    let n = n as u128;
-    u128::from(seg.a.unsigned_abs()) <= most
-        && u128::from(seg.b.unsigned_abs()) * n <= most
-        && u128::from(seg.c.unsigned_abs()) * (n * n) <= most
 }
 
 /// Whether a segment tells the measures of its curve over the readings.
@@ -80,7 +58,7 @@ fn is_measured(seg: &Seg, xs: &[i32]) -> bool
     requires some { 0 < length xs.now }
     requires few { length xs.now ≤ 2 ^ 20 }
     requires small { AreReadings xs.now }
-    requires bounded { IsBounded (curve_of seg.now) (length xs.now) (spread xs.now) }
+    requires bounded { IsBounded (curve_of seg.now) (length xs.now) (greatest_reading xs.now) }
     requires len { seg.now.len ≡ length xs.now }
     ensures { result ≡ is_measured xs.now seg.now }
 {

@@ -88,9 +88,9 @@ returns-in-Some-clause-nodes t c =
     let one : AreMarked c.args.slots.now c.mark.new.slots c.children-left.result.0 l = record { nodes = c.mark.ensures.nodes; marks = c.mark.ensures.marked; closed = c.mark.ensures.closed } in
     let two : AreMarked c.mark.new.slots c.mark-in-Some.new.slots c.children-left.result.1 r = record { nodes = c.mark-in-Some.ensures.nodes; marks = c.mark-in-Some.ensures.marked; closed = c.mark-in-Some.ensures.closed } in
     let done = subst (AreMarked c.args.slots.now c.set_mark-in-Some.new.slots c.args.place) (sym is)
-        (marked-fork c.args.slots.now c.mark.new.slots c.mark-in-Some.new.slots c.set_mark-in-Some.new.slots c.args.place c.args.start c.args.len l r (subst (IsLinked ns c.args.place) is c.requires.linked)
-            (subst (λ p. AreMarked c.args.slots.now c.mark.new.slots p l) c.children-left.ensures.left one)
-            (subst (λ p. AreMarked c.mark.new.slots c.mark-in-Some.new.slots p r) c.children-left.ensures.right two) c.set_mark-in-Some.ensures) in
+    (marked-fork c.args.slots.now c.mark.new.slots c.mark-in-Some.new.slots c.set_mark-in-Some.new.slots c.args.place c.args.start c.args.len l r (subst (IsLinked ns c.args.place) is c.requires.linked)
+    (subst (λ p. AreMarked c.args.slots.now c.mark.new.slots p l) c.children-left.ensures.left one)
+    (subst (λ p. AreMarked c.mark.new.slots c.mark-in-Some.new.slots p r) c.children-left.ensures.right two) c.set_mark-in-Some.ensures) in
     done.nodes
 
 pub returns-in-Some-clause-marked : goal.returns-in-Some-clause-marked
@@ -104,9 +104,9 @@ returns-in-Some-clause-marked t c =
     let one : AreMarked c.args.slots.now c.mark.new.slots c.children-left.result.0 l = record { nodes = c.mark.ensures.nodes; marks = c.mark.ensures.marked; closed = c.mark.ensures.closed } in
     let two : AreMarked c.mark.new.slots c.mark-in-Some.new.slots c.children-left.result.1 r = record { nodes = c.mark-in-Some.ensures.nodes; marks = c.mark-in-Some.ensures.marked; closed = c.mark-in-Some.ensures.closed } in
     let done = subst (AreMarked c.args.slots.now c.set_mark-in-Some.new.slots c.args.place) (sym is)
-        (marked-fork c.args.slots.now c.mark.new.slots c.mark-in-Some.new.slots c.set_mark-in-Some.new.slots c.args.place c.args.start c.args.len l r (subst (IsLinked ns c.args.place) is c.requires.linked)
-            (subst (λ p. AreMarked c.args.slots.now c.mark.new.slots p l) c.children-left.ensures.left one)
-            (subst (λ p. AreMarked c.mark.new.slots c.mark-in-Some.new.slots p r) c.children-left.ensures.right two) c.set_mark-in-Some.ensures) in
+    (marked-fork c.args.slots.now c.mark.new.slots c.mark-in-Some.new.slots c.set_mark-in-Some.new.slots c.args.place c.args.start c.args.len l r (subst (IsLinked ns c.args.place) is c.requires.linked)
+    (subst (λ p. AreMarked c.args.slots.now c.mark.new.slots p l) c.children-left.ensures.left one)
+    (subst (λ p. AreMarked c.mark.new.slots c.mark-in-Some.new.slots p r) c.children-left.ensures.right two) c.set_mark-in-Some.ensures) in
     done.marks
 
 pub returns-in-Some-clause-closed : goal.returns-in-Some-clause-closed
@@ -120,7 +120,7 @@ returns-in-Some-clause-closed t c =
     let one : AreMarked c.args.slots.now c.mark.new.slots c.children-left.result.0 l = record { nodes = c.mark.ensures.nodes; marks = c.mark.ensures.marked; closed = c.mark.ensures.closed } in
     let two : AreMarked c.mark.new.slots c.mark-in-Some.new.slots c.children-left.result.1 r = record { nodes = c.mark-in-Some.ensures.nodes; marks = c.mark-in-Some.ensures.marked; closed = c.mark-in-Some.ensures.closed } in
     let done = subst (AreMarked c.args.slots.now c.set_mark-in-Some.new.slots c.args.place) (sym is)
-        (marked-fork c.args.slots.now c.mark.new.slots c.mark-in-Some.new.slots c.set_mark-in-Some.new.slots c.args.place c.args.start c.args.len l r (subst (IsLinked ns c.args.place) is c.requires.linked)
-            (subst (λ p. AreMarked c.args.slots.now c.mark.new.slots p l) c.children-left.ensures.left one)
-            (subst (λ p. AreMarked c.mark.new.slots c.mark-in-Some.new.slots p r) c.children-left.ensures.right two) c.set_mark-in-Some.ensures) in
+    (marked-fork c.args.slots.now c.mark.new.slots c.mark-in-Some.new.slots c.set_mark-in-Some.new.slots c.args.place c.args.start c.args.len l r (subst (IsLinked ns c.args.place) is c.requires.linked)
+    (subst (λ p. AreMarked c.args.slots.now c.mark.new.slots p l) c.children-left.ensures.left one)
+    (subst (λ p. AreMarked c.mark.new.slots c.mark-in-Some.new.slots p r) c.children-left.ensures.right two) c.set_mark-in-Some.ensures) in
     done.closed

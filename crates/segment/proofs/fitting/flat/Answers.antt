@@ -2,7 +2,7 @@ use Rattle.std.proofs.Common.{◌≡◌, ◌<◌, pos, ℤ, ◌*ℤ◌, length, 
 use Rattle.std.proofs.lemmas.Int.{to_z-of_z}
 use Rattle.semantics.specs.Quotients.{floor_of}
 use Rattle.semantics.specs.Sums.{total_below}
-use Rattle.segment.specs.Measure.{unit, spread, IsBounded}
+use Rattle.segment.specs.Measure.{unit, greatest_reading, IsBounded}
 use Rattle.segment.specs.Fit.{in_block, flat_of}
 use Rattle.segment.specs.declared.curves.Curve.{Curve}
 use Rattle.segment.proofs.FitLaws.{in_block-all, flat-le}
@@ -13,7 +13,7 @@ level_is : (xs : List ℤ) (t a : ℤ) → t ≡ total_below (in_block xs 0) (le
 unfolding flat_of
 level_is xs t a sum mean = rw (mean, sum, in_block-all xs (length xs)) refl
 
-flat_bounded : (xs : List ℤ) → 0 < length xs → IsBounded (flat_of xs) (length xs) (spread xs)
+flat_bounded : (xs : List ℤ) → 0 < length xs → IsBounded (flat_of xs) (length xs) (greatest_reading xs)
 unfolding flat_of
 flat_bounded xs some = record { constant = omega (arith, flat-le xs some); linear = omega arith; square = omega arith }
 

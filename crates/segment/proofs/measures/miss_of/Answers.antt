@@ -3,17 +3,17 @@ use Rattle.std.proofs.lemmas.Int.{to_z-of_z}
 use Rattle.semantics.specs.Sums.{sum_below}
 use Rattle.semantics.proofs.SumLaws.{sum_below-more}
 use Rattle.segment.specs.Measure.{miss, miss_at}
-use Rattle.segment.proofs.Bounds.{spread-le, small_from_bounded}
+use Rattle.segment.proofs.Bounds.{greatest_reading-le, small_from_bounded}
 use Rattle.segment.proofs.measures.miss_of.Goals as goal
 
 pub estimate-requires-clause-constant : goal.estimate-requires-clause-constant
-estimate-requires-clause-constant c = (small_from_bounded c.args.curve.now _ _ (spread-le c.args.xs.now c.requires.small) c.requires.bounded).constant
+estimate-requires-clause-constant c = (small_from_bounded c.args.curve.now _ _ (greatest_reading-le c.args.xs.now c.requires.small) c.requires.bounded).constant
 
 pub estimate-requires-clause-linear : goal.estimate-requires-clause-linear
-estimate-requires-clause-linear c = (small_from_bounded c.args.curve.now _ _ (spread-le c.args.xs.now c.requires.small) c.requires.bounded).linear c.loop-i.i c.loop-i-test.true
+estimate-requires-clause-linear c = (small_from_bounded c.args.curve.now _ _ (greatest_reading-le c.args.xs.now c.requires.small) c.requires.bounded).linear c.loop-i.i c.loop-i-test.true
 
 pub estimate-requires-clause-square : goal.estimate-requires-clause-square
-estimate-requires-clause-square c = (small_from_bounded c.args.curve.now _ _ (spread-le c.args.xs.now c.requires.small) c.requires.bounded).square c.loop-i.i c.loop-i-test.true
+estimate-requires-clause-square c = (small_from_bounded c.args.curve.now _ _ (greatest_reading-le c.args.xs.now c.requires.small) c.requires.bounded).square c.loop-i.i c.loop-i-test.true
 
 pub loop-i-preserved : goal.loop-i-preserved
 loop-i-preserved c =

@@ -1,18 +1,33 @@
-use Rattle.std.proofs.Common.{sym, ◌∙◌, arith}
-use Rattle.store_file.proofs.GoodLaws.{good-wide, good-unbounded, good-bounded, good-measured, within-spread}
+use Rattle.std.proofs.Common.{sym, ◌∙◌, arith, SFits, w64, rules}
+use Rattle.store_file.proofs.GoodLaws.{bounded-told-seg, good-wide, good-unbounded, good-bounded, good-measured, within-greatest}
 use Rattle.store_file.proofs.truth.is_good.Goals as goal
 
-pub returns-then-d-gt-MOST : goal.returns-then-d-gt-MOST
-returns-then-d-gt-MOST c = sym (good-wide c.args.xs.now c.args.seg.now c.spread_of-d.result c.spread_of-d.ensures c.if-d-gt-MOST.true)
+pub returns-then-d-from : goal.returns-then-d-from
+returns-then-d-from c = sym (good-wide c.args.xs.now c.args.seg.now c.greatest_reading-d.result c.greatest_reading-d.ensures (omega arith))
 
-pub returns-then-not-keeps_bound : goal.returns-then-not-keeps_bound
-returns-then-not-keeps_bound c = sym (good-unbounded c.args.xs.now c.args.seg.now c.spread_of-d.result c.spread_of-d.ensures c.if-d-gt-MOST.false (sym c.keeps_bound.ensures ∙ c.if-not-keeps_bound.true))
+pub returns-then-not-is_bounded : goal.returns-then-not-is_bounded
+returns-then-not-is_bounded c =
+    let fa : SFits w64 c.args.seg.now.a = search rules in
+    let fb : SFits w64 c.args.seg.now.b = search rules in
+    let fc : SFits w64 c.args.seg.now.c = search rules in
+    let told = bounded-told-seg c.args.xs.now c.args.seg.now c.greatest_reading-d.result c.is_bounded.result fa fb fc c.requires.len c.is_bounded.ensures in
+    sym (good-unbounded c.args.xs.now c.args.seg.now c.greatest_reading-d.result c.greatest_reading-d.ensures (omega arith) (sym told ∙ c.if-not-is_bounded.true))
 
 pub is_measured-requires-clause-small : goal.is_measured-requires-clause-small
-is_measured-requires-clause-small c = within-spread c.args.xs.now (omega (arith, c.spread_of-d.ensures, c.if-d-gt-MOST.false))
+is_measured-requires-clause-small c = within-greatest c.args.xs.now (omega arith)
 
 pub is_measured-requires-clause-bounded : goal.is_measured-requires-clause-bounded
-is_measured-requires-clause-bounded c = good-bounded c.args.xs.now c.args.seg.now c.spread_of-d.result c.spread_of-d.ensures (sym c.keeps_bound.ensures ∙ c.if-not-keeps_bound.false)
+is_measured-requires-clause-bounded c =
+    let fa : SFits w64 c.args.seg.now.a = search rules in
+    let fb : SFits w64 c.args.seg.now.b = search rules in
+    let fc : SFits w64 c.args.seg.now.c = search rules in
+    let told = bounded-told-seg c.args.xs.now c.args.seg.now c.greatest_reading-d.result c.is_bounded.result fa fb fc c.requires.len c.is_bounded.ensures in
+    good-bounded c.args.xs.now c.args.seg.now c.greatest_reading-d.result c.greatest_reading-d.ensures (sym told ∙ c.if-not-is_bounded.false)
 
 pub returns : goal.returns
-returns c = good-measured c.args.xs.now c.args.seg.now c.spread_of-d.result c.is_measured.result c.spread_of-d.ensures c.if-d-gt-MOST.false (sym c.keeps_bound.ensures ∙ c.if-not-keeps_bound.false) c.is_measured.ensures
+returns c =
+    let fa : SFits w64 c.args.seg.now.a = search rules in
+    let fb : SFits w64 c.args.seg.now.b = search rules in
+    let fc : SFits w64 c.args.seg.now.c = search rules in
+    let told = bounded-told-seg c.args.xs.now c.args.seg.now c.greatest_reading-d.result c.is_bounded.result fa fb fc c.requires.len c.is_bounded.ensures in
+    good-measured c.args.xs.now c.args.seg.now c.greatest_reading-d.result c.is_measured.result c.greatest_reading-d.ensures (omega arith) (sym told ∙ c.if-not-is_bounded.false) c.is_measured.ensures

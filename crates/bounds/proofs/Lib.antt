@@ -6,6 +6,7 @@ pub mod NearLaws
 pub mod NumberBounds
 pub mod OccurrenceLaws
 pub mod PieceLaws
+pub mod ReadLaws
 pub mod Regroup
 pub mod SaneLaws
 pub mod SegmentLaws

@@ -67,7 +67,8 @@ weight_of m o = (slice_index_or m.uses o no_use).weight
 abbrev pub weight_at : (List ℕ → List Seg) → Term → ℤ → ℕ → ℕ → ℕ
 weight_at C t l o j = weight_of (form C t (l +ℤ pos j)) o
 
--- the weight at the j-th position where it reads the segment, 0 where it does not; `at` is where it reads at the first one
+-- the weight at the j-th position where it reads the segment, 0 where it does not; `at` is where it reads at the first
+-- one
 abbrev pub weight_in : (ℕ → ℕ) → ℤ → Seg → ℕ → ℕ
 weight_in w at g j = if covers g (at +ℤ pos j) then w j else 0
 
@@ -120,8 +121,10 @@ pub record IsAround (estimate : ℤ) (error rank : ℕ) (v : ℤ) : Type 0 where
 
 -- a rule for the weights: over true segments the interval of every sum contains the plain sum
 abbrev pub ContainsSums : ((List ℕ → List Seg) → Term → ℤ → ℕ → ℕ → ℤ → Seg → ℕ) → Type 0
-ContainsSums rule = (X : List ℕ → List ℤ) (es : List Entry) (t : Term) (l : ℤ) (n : ℕ) → OfEachName (HasTrueSegs X (segs_of es)) t →
-    IsAround (sum_estimate es t l n) (error_by (rule (segs_of es) t l n) es t l) (rank_of t) (total_below (value_from X t l) n)
+ContainsSums rule = (X : List ℕ → List ℤ) (es : List Entry) (t : Term) (l : ℤ) (n : ℕ)
+    → OfEachName (HasTrueSegs X (segs_of es)) t
+    → IsAround (sum_estimate es t l n) (error_by (rule (segs_of es) t l n) es t l) (rank_of t)
+    (total_below (value_from X t l) n)
 
 -- so is that of the greatest weights
 abbrev pub SumsAreWithin : Type 0

@@ -2,6 +2,7 @@ pub mod Cut
 pub mod Form
 pub mod Magnitudes
 pub mod Pieces
+pub mod Reads
 pub mod Segments
 pub mod Shape
 pub mod Small

@@ -37,9 +37,15 @@ abbrev pub weight_bounds : (List ℕ → ℕ) → Term → List ℕ
 weight_bounds D (base name) = 1 ∷ []
 weight_bounds D (constant v a b) = []
 weight_bounds D (bare v) = []
-weight_bounds D (plus u v) = times_each (lift (rank_of u) (rank_of v)) (weight_bounds D u) ++ times_each (lift (rank_of v) (rank_of u)) (weight_bounds D v)
-weight_bounds D (minus u v) = times_each (lift (rank_of u) (rank_of v)) (weight_bounds D u) ++ times_each (lift (rank_of v) (rank_of u)) (weight_bounds D v)
-weight_bounds D (times u v) = times_each (unit ^ rank_of v * estimate_bound D v) (weight_bounds D u) ++ times_each (unit ^ rank_of u * estimate_bound D u) (weight_bounds D v)
+weight_bounds D (plus u v) =
+    times_each (lift (rank_of u) (rank_of v)) (weight_bounds D u)
+    ++ times_each (lift (rank_of v) (rank_of u)) (weight_bounds D v)
+weight_bounds D (minus u v) =
+    times_each (lift (rank_of u) (rank_of v)) (weight_bounds D u)
+    ++ times_each (lift (rank_of v) (rank_of u)) (weight_bounds D v)
+weight_bounds D (times u v) =
+    times_each (unit ^ rank_of v * estimate_bound D v) (weight_bounds D u)
+    ++ times_each (unit ^ rank_of u * estimate_bound D u) (weight_bounds D v)
 weight_bounds D (shift u k) = weight_bounds D u
 
 -- for each occurrence, a bound on the l of its segments for each position of them
@@ -98,6 +104,7 @@ pub record IsSumWithin (D : List ℕ → ℕ) (n : ℕ) (es : List Entry) (t : T
 -- over sane segments the numbers of every series, of its local forms and of its sums are within its magnitudes
 pub record NumbersAreWithin : Type 0 where
   pub series : (D : List ℕ → ℕ) (t : Term) → HasMagnitudes D t
-  pub forms : (D : List ℕ → ℕ) (n : ℕ) (C : List ℕ → List Seg) (t : Term) (i : ℤ) → OfEachName (HasSaneSegs D n C) t → IsFormWithin D n C t i
+  pub forms : (D : List ℕ → ℕ) (n : ℕ) (C : List ℕ → List Seg) (t : Term) (i : ℤ) → OfEachName (HasSaneSegs D n C) t
+      → IsFormWithin D n C t i
   pub sums : (D : List ℕ → ℕ) (n : ℕ) (es : List Entry) (t : Term) (l : ℤ) (m : ℕ) → AreDistinct es →
       OfEachName (HasSaneSegs D n (segs_of es)) t → m ≤ n → IsSumWithin D n es t l m

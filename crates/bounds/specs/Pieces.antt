@@ -28,4 +28,5 @@ pub record IsByPiece (C : List ℕ → List Seg) (t : Term) (l : ℤ) (n len : �
 
 -- forms and greatest weights go piece by piece
 abbrev pub FormsGoByPieces : Type 0
-FormsGoByPieces = (C : List ℕ → List Seg) (t : Term) (l : ℤ) (n len : ℕ) (gs : List Seg) → IsPiece C t l n len gs → IsByPiece C t l n len gs
+FormsGoByPieces = (C : List ℕ → List Seg) (t : Term) (l : ℤ) (n len : ℕ) (gs : List Seg) → IsPiece C t l n len gs
+    → IsByPiece C t l n len gs

@@ -41,7 +41,8 @@ pub record IsFoundAt (gs : List Seg) (k : ℕ) (i : ℤ) : Type 0 where
 
 -- so is every segment at the positions that it covers, of those that lie one behind the other
 abbrev pub SegsAreFound : Type 0
-SegsAreFound = (gs : List Seg) (from to k : ℕ) (i : ℤ) → TouchFrom from gs to → k < length gs → covers (seg_in gs k) i ≡ true → IsFoundAt gs k i
+SegsAreFound = (gs : List Seg) (from to k : ℕ) (i : ℤ) → TouchFrom from gs to → k < length gs
+    → covers (seg_in gs k) i ≡ true → IsFoundAt gs k i
 
 -- a segment is true of those readings that it covers
 abbrev pub IsTrueIn : List ℤ → Seg → Type 0

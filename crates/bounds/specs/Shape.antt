@@ -43,7 +43,13 @@ abbrev pub base_shape : Seg → Shape
 base_shape g = record { rank = 1; most = g.d; most_estimate = g.f; norm = norm_of g; weights = 1 ∷ [] }
 
 abbrev pub constant_shape : ℤ → Shape
-constant_shape v = record { rank = 0; most = unsigned_abs v; most_estimate = unsigned_abs v; norm = unsigned_abs v; weights = [] }
+constant_shape v = record {
+  rank = 0;
+  most = unsigned_abs v;
+  most_estimate = unsigned_abs v;
+  norm = unsigned_abs v;
+  weights = [];
+}
 
 abbrev pub sum_shape : Shape → Shape → Shape
 sum_shape u v = record {
@@ -66,7 +72,8 @@ product_shape gs u v = record {
   most = u.most * v.most;
   most_estimate = u.most_estimate * v.most_estimate;
   norm = u.norm * v.norm;
-  weights = if nat_le (cost_over (weights_a u v) gs) (cost_over (weights_b u v) gs) then weights_a u v else weights_b u v;
+  weights =
+      if nat_le (cost_over (weights_a u v) gs) (cost_over (weights_b u v) gs) then weights_a u v else weights_b u v;
 }
 
 -- the first of some segments
@@ -102,8 +109,10 @@ abbrev pub estimate_by : Term → List Seg → ℤ → ℤ
 estimate_by (base name) gs i = estimate_of (first_of gs) i
 estimate_by (constant v a b) gs i = v
 estimate_by (bare v) gs i = v
-estimate_by (plus u v) gs i = joined (λ p q. p +ℤ q) (rank_of u) (rank_of v) (estimate_by u (left_of u gs) i) (estimate_by v (right_of u gs) i)
-estimate_by (minus u v) gs i = joined (λ p q. p -ℤ q) (rank_of u) (rank_of v) (estimate_by u (left_of u gs) i) (estimate_by v (right_of u gs) i)
+estimate_by (plus u v) gs i =
+    joined (λ p q. p +ℤ q) (rank_of u) (rank_of v) (estimate_by u (left_of u gs) i) (estimate_by v (right_of u gs) i)
+estimate_by (minus u v) gs i =
+    joined (λ p q. p -ℤ q) (rank_of u) (rank_of v) (estimate_by u (left_of u gs) i) (estimate_by v (right_of u gs) i)
 estimate_by (times u v) gs i = estimate_by u (left_of u gs) i *ℤ estimate_by v (right_of u gs) i
 estimate_by (shift u k) gs i = estimate_by u gs (i -ℤ k)
 
@@ -122,4 +131,5 @@ pub record HasShape (m : Form) (s : Shape) (z : ℤ) : Type 0 where
 
 -- so has every local form, by the segments that it reads
 abbrev pub FormsAreByReads : Type 0
-FormsAreByReads = (C : List ℕ → List Seg) (t : Term) (i : ℤ) → HasShape (form C t i) (shape t (reads C t i)) (estimate_by t (reads C t i) i)
+FormsAreByReads = (C : List ℕ → List Seg) (t : Term) (i : ℤ)
+    → HasShape (form C t i) (shape t (reads C t i)) (estimate_by t (reads C t i) i)

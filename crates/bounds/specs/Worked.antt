@@ -12,7 +12,16 @@ turns (suc n) = pos 0 ∷ pos 10 ∷ turns n
 
 -- the root of 16 turns: it estimates 5
 abbrev pub turns_root : Seg
-turns_root = record { start = 0; len = 32; a = pos (5 * unit); b = pos 0; c = pos 0; l = 160 * unit; d = 10; f = 5 * unit }
+turns_root = record {
+  start = 0;
+  len = 32;
+  a = pos (5 * unit);
+  b = pos 0;
+  c = pos 0;
+  l = 160 * unit;
+  d = 10;
+  f = 5 * unit;
+}
 
 abbrev pub steps : List ℤ
 steps = pos 1 ∷ pos 2 ∷ pos 3 ∷ []

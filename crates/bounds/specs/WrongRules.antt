@@ -9,7 +9,8 @@ use Rattle.bounds.specs.Segments.{covers}
 -- ---- both estimates in place of an estimate and a value
 
 abbrev pub estimates_product : (List ℕ → List Seg) → Form → Form → Form
-estimates_product C u v = record (product_form C u v) { uses = weigh v.most_estimate u.uses ++ weigh u.most_estimate v.uses }
+estimates_product C u v =
+    record (product_form C u v) { uses = weigh v.most_estimate u.uses ++ weigh u.most_estimate v.uses }
 
 abbrev pub estimates_form : (List ℕ → List Seg) → Term → ℤ → Form
 estimates_form C (base name) i = base_form C name i

@@ -5,6 +5,7 @@ ghost use Rattle.segment.specs.Measure.{AreReadings};
 ghost use Rattle.segment.specs.Shape.{node_count, shape};
 ghost use Rattle.segment.specs.Tree.{SegTree, fitted_series, all_readings, all_segs};
 ghost use Rattle.seg_tree.specs.Adopted.{HaveTree, IsTreeWith};
+ghost use Rattle.seg_tree.specs.Grown.{grown_tree};
 ghost use Rattle.seg_tree.specs.Linked.{Extends, IsUsed, held_at, node_at, used};
 ghost use Rattle.seg_tree.specs.Trees.{IsReached, IsTreeOf, value_of};
 ghost use Rattle.std.specs.List.{All};
@@ -116,6 +117,7 @@ impl Arena {
         requires small { AreReadings xs.now }
         ensures tree { IfOk result (λ t. IsTreeOf self.new.nodes t) }
         ensures len { IfOk result (λ t. t.n ≡ tree.n + length xs.now) }
+        ensures grown { IfOk result (λ t. value_of self.new.nodes t ≡ grown_tree self.old.degree (value_of self.old.nodes tree) xs.now) }
         ensures readings { IfOk result (λ t. all_readings (value_of self.new.nodes t) ≡ all_readings (value_of self.old.nodes tree) ++ xs.now) }
         ensures segs { IfOk result (λ t. all_segs (value_of self.new.nodes t)
             ≡ map (kept_or_fit self.old.degree (all_readings (value_of self.old.nodes tree) ++ xs.now) (all_segs (value_of self.old.nodes tree))) (shape (tree.n + length xs.now))) }

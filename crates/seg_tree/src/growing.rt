@@ -4,7 +4,7 @@ ghost use Rattle.segment.specs.Growth.{behind, kept_or_fit, made, tree_by};
 ghost use Rattle.segment.specs.Measure.{AreReadings};
 ghost use Rattle.segment.specs.Shape.{plan, ranges, shape};
 ghost use Rattle.segment.specs.Tree.{SegTree, segs_of, all_readings, all_segs};
-ghost use Rattle.seg_tree.specs.Grown.{IsOldPart};
+ghost use Rattle.seg_tree.specs.Grown.{IsOldPart, told_series};
 ghost use Rattle.seg_tree.specs.Linked.{Extends, Holds, IsLinked, used};
 ghost use Rattle.seg_tree.specs.Trees.{IsTreeAt, IsTreeOf, value_at, value_of};
 
@@ -127,6 +127,7 @@ pub(crate) fn grow_tree(nodes: &mut Places, root: u32, old: u32, xs: &[i32], deg
     requires spare { made old (length xs.now) ≤ nodes.old.spare }
     ensures tree { IsTreeOf nodes.new.nodes result }
     ensures len { result.n ≡ length xs.now }
+    ensures told { value_of nodes.new.nodes result ≡ told_series (kept_or_fit degree xs.now (all_segs (value_at nodes.old.nodes (Some root) old))) xs.now }
     ensures readings { all_readings (value_of nodes.new.nodes result) ≡ xs.now }
     ensures segs { all_segs (value_of nodes.new.nodes result)
         ≡ map (kept_or_fit degree xs.now (all_segs (value_at nodes.old.nodes (Some root) old))) (shape (length xs.now)) }

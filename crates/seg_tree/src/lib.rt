@@ -16,5 +16,5 @@ mod tests;
 
 pub use arena::{Arena, Tree, TreeErr};
 pub use arena_nodes::ArenaNodes;
-pub use laws::trees_differ;
+pub use laws::{trees_differ, trees_grow};
 pub use nodes::{Below, Node};

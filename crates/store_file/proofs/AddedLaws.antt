@@ -2,6 +2,7 @@
 use Rattle.std.proofs.Common.{◌≡◌, ◌⊎◌, ◌↔◌, ℕ, ◌+◌, ◌<◌, ◌≤◌, ◌^◌, Bool, true, false, nat_le, nat_lt, if◌then◌else◌, ℤ, List, [], ◌∷◌, ◌++◌, length, map, Option, Some, None, Result, Err, is_some, refl, sym, ap, ap₂, subst, ◌∙◌, inl, inr, arith, length-append}
 use Rattle.std.specs.Prelude.{◌||◌}
 use Rattle.std.specs.Map.{lookup, keys_of}
+use Rattle.std.specs.Option.{option_or}
 use Rattle.std.proofs.lemmas.Bool.Decides.{nat_tests}
 use Rattle.std.proofs.lemmas.Map.Made.{is_some-lookup}
 use Rattle.indexmap.specs.IndexMap.{IndexMap, insert_entry}
@@ -21,7 +22,7 @@ use Rattle.seg_tree.specs.declared.arena.TreeErr.TheVariants as tree
 use Rattle.seg_tree.proofs.Extended.{value_of-Extends, IsTreeOf-Extends}
 use Rattle.store_file.specs.StoreValue.{Series, AreNames, EachTree, count_of, has_name, name_of}
 use Rattle.store_file.specs.Stored.{series_of, AreOf, StoreParts, IsSound, store_value}
-use Rattle.store_file.specs.Added.{names_in, with_series, name_refusal, readings_refusal, first_refusal, add_refusal, series_err_of, AddingKeepsStores, RoomIsEnough}
+use Rattle.store_file.specs.Added.{names_in, with_series, name_refusal, readings_refusal, add_refusal, series_err_of, AddingKeepsStores, RoomIsEnough}
 use Rattle.store_file.specs.declared.adding.SeriesErr.{SeriesErr}
 use Rattle.store_file.specs.declared.adding.SeriesErr.TheVariants as refusal
 use Rattle.store_file.specs.declared.store.Stored.{Stored}
@@ -88,7 +89,7 @@ isnt_above : (a b : ℕ) → a ≤ b → nat_lt b a ≡ false
 isnt_above a b h = grind (arith, nat_tests)
 
 -- a name is among the entries where it is one of the store
-there : (s : StoreParts) (name : List ℕ) → is_some (lookup (same_name name) s.entries) ≡ has_name (names_in (store_value s)) name
+pub there : (s : StoreParts) (name : List ℕ) → is_some (lookup (same_name name) s.entries) ≡ has_name (names_in (store_value s)) name
 there s name = is_some-lookup (same_name name) s.entries ∙ ap (λ ns. has_name ns name) (sym (names-series s.arena.nodes s.entries))
 
 pub name_refusal-there : (v s : StoreParts) (name : List ℕ) → v ≡ s → is_some (lookup (same_name name) v.entries) ≡ true → Some refusal.Exists ≡ name_refusal (store_value s) name
@@ -119,10 +120,10 @@ name_refusal-passed s name h = by (has_name (names_in (store_value s)) name) (na
     by false false first second h = record { absent = first; few = not_16 (length (store_value s).series) second }
 
 pub add_refusal-name : (s : StoreParts) (name : List ℕ) (xs : List ℤ) (e : SeriesErr) → Some e ≡ name_refusal (store_value s) name → add_refusal s name xs ≡ Some e
-add_refusal-name s name xs e h = ap (λ o. first_refusal o (readings_refusal s xs)) (sym h)
+add_refusal-name s name xs e h = ap (λ o. option_or o (readings_refusal s xs)) (sym h)
 
 pub add_refusal-readings : (s : StoreParts) (name : List ℕ) (xs : List ℤ) → None ≡ name_refusal (store_value s) name → add_refusal s name xs ≡ readings_refusal s xs
-add_refusal-readings s name xs h = ap (λ o. first_refusal o (readings_refusal s xs)) (sym h)
+add_refusal-readings s name xs h = ap (λ o. option_or o (readings_refusal s xs)) (sym h)
 
 -- what an arena's answer says of a store's refusal
 pub record BuildRefuses (s : StoreParts) (xs : List ℤ) (e : TreeErr) : Type 0 where
@@ -151,7 +152,7 @@ room-is-enough s name xs room short =
     let none = readings_refusal-none s xs short (omega (arith, nodes_few (length xs) short, room)) in
     rw none (first (name_refusal (store_value s) name))
   where
-    first : (o : Option SeriesErr) → first_refusal o None ≡ o
+    first : (o : Option SeriesErr) → option_or o None ≡ o
     first None = refl
     first (Some e) = refl
 

@@ -3,6 +3,7 @@ pub mod DecodedLaws
 pub mod EntryReading
 pub mod FactLaws
 pub mod GoodLaws
+pub mod GrownLaws
 pub mod HeaderLaws
 pub mod ImageLaws
 pub mod SeriesReading

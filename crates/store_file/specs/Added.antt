@@ -1,5 +1,6 @@
 -- A store with one more series, and why a series is not added.
 use Rattle.std.specs.Prelude.{◌≡◌, ℕ, ◌+◌, ◌^◌, ◌<◌, ◌≤◌, true, false, nat_le, nat_lt, if◌then◌else◌, ℤ, List, [], ◌∷◌, ◌++◌, length, map, Option, Some, None}
+use Rattle.std.specs.Option.{option_or}
 use Rattle.semantics.specs.Names.{is_name}
 use Rattle.segment.specs.Measure.{AreReadings}
 use Rattle.segment.specs.Shape.{node_count}
@@ -33,13 +34,9 @@ readings_refusal s xs =
     if nat_lt (2 ^ 20) (length xs) then Some refusal.TooLong else
     (if nat_lt s.arena.limit (used s.arena.nodes + node_count (length xs)) then Some refusal.ArenaFull else None)
 
-abbrev pub first_refusal : Option SeriesErr → Option SeriesErr → Option SeriesErr
-first_refusal (Some e) next = Some e
-first_refusal None next = next
-
 -- why a series is not added
 abbrev pub add_refusal : StoreParts → List ℕ → List ℤ → Option SeriesErr
-add_refusal s name xs = first_refusal (name_refusal (store_value s) name) (readings_refusal s xs)
+add_refusal s name xs = option_or (name_refusal (store_value s) name) (readings_refusal s xs)
 
 -- what an arena's refusal is for a store
 abbrev pub series_err_of : TreeErr → SeriesErr

@@ -2,6 +2,7 @@ pub mod Added
 pub mod Decoded
 pub mod Facts
 pub mod Good
+pub mod Grown
 pub mod Header
 pub mod Laws
 pub mod Restored

@@ -4,12 +4,13 @@ ghost use Rattle.std.specs.Prelude.{◌≡◌, ◌⊎◌, ◌+◌, length, OnOk,
 ghost use Rattle.segment.specs.Measure.{AreReadings};
 ghost use Rattle.segment.specs.Shape.{node_count};
 ghost use Rattle.seg_tree.specs.Linked.{Extends, used};
-ghost use Rattle.store_file.specs.Added.{IsAddable, add_refusal, name_refusal, series_err_of, with_series};
+ghost use Rattle.store_file.specs.Added.{IsAddable, add_refusal, name_refusal, with_series};
 ghost use Rattle.store_file.specs.Stored.{store_value};
 
 use crate::{Store, Stored};
 use expr::Name;
 use seg_tree::TreeErr;
+use std::alloc::AllocError;
 
 /// Why a series was not added.
 #[derive(Clone, Copy, Debug, Drop, PartialEq, Eq)]
@@ -59,26 +60,33 @@ impl Store {
         }
         // A name's bytes are a name, as its type keeps it.
         let _ = name.bytes();
-        match self.series.reserve(1) {
-            Ok(()) => {}
-            Err(_) => return Err(SeriesErr::Memory),
-        }
-        match self.arena.build(xs) {
-            Ok(tree) => {
-                let _ = self.series.insert(name, Stored { tree }).unwrap();
-                Ok(())
-            }
-            Err(error) => Err(series_err(error)),
+        self.series.reserve(1)?;
+        let tree = self.arena.build(xs)?;
+        let _ = self.series.insert(name, Stored { tree }).unwrap();
+        Ok(())
+    }
+}
+
+impl From<TreeErr> for SeriesErr {
+    ghost use Rattle.store_file.specs.Added.{series_err_of};
+
+    ghost from_gives = { λ e r. r ≡ series_err_of e };
+
+    fn from(error: TreeErr) -> SeriesErr {
+        match error {
+            TreeErr::TooLong => SeriesErr::TooLong,
+            TreeErr::ArenaFull => SeriesErr::ArenaFull,
+            TreeErr::Memory => SeriesErr::Memory,
         }
     }
 }
 
-fn series_err(error: TreeErr) -> SeriesErr
-    ensures { result ≡ series_err_of error }
-{
-    match error {
-        TreeErr::TooLong => SeriesErr::TooLong,
-        TreeErr::ArenaFull => SeriesErr::ArenaFull,
-        TreeErr::Memory => SeriesErr::Memory,
+impl From<AllocError> for SeriesErr {
+    ghost use Rattle.store_file.specs.declared.adding.SeriesErr.TheVariants.{Memory};
+
+    ghost from_gives = { λ _ r. r ≡ Memory };
+
+    fn from(_: AllocError) -> SeriesErr {
+        SeriesErr::Memory
     }
 }

@@ -1,4 +1,4 @@
-use Rattle.std.proofs.Common.{◌≡◌, ◌<◌, length, map, arith, ap, ◌∙◌, sym, subst}
+use Rattle.std.proofs.Common.{Some, ◌≡◌, ◌<◌, length, map, arith, ap, ◌∙◌, sym, subst}
 use Rattle.segment.specs.Growth.{kept_or_fit, behind}
 use Rattle.segment.specs.Shape.{Range, plan}
 use Rattle.segment.specs.declared.segments.Seg.{Seg}
@@ -6,6 +6,7 @@ use Rattle.segment.specs.Tree.{IsTreeOver, readings_of, segs_of}
 use Rattle.segment.proofs.ShapeLaws.{shape-plan}
 use Rattle.segment.proofs.GrowthLaws.{made-behind, readings-tree_by, segs-tree_by, grown-over}
 use Rattle.seg_tree.specs.Linked.{tree_at}
+use Rattle.seg_tree.proofs.GrownSeries.{told_series-some}
 use Rattle.seg_tree.proofs.GrownTrees.{old_whole, whole_grown}
 use Rattle.seg_tree.proofs.growing.grow_tree.Goals as goal
 
@@ -46,3 +47,11 @@ returns-clause-segs c =
     let old = old_whole c.args.nodes.now.nodes c.args.root c.args.old c.args.xs.now c.requires.tree c.requires.front in
     let grown = whole_grown c.args.degree c.grow_nodes-grown.new.nodes.nodes c.grow_nodes-grown.result c.args.xs.now t (c.grow_nodes-grown.ensures.holds t old) in
     ap segs_of grown.content ∙ segs-tree_by f (plan 0 (length c.args.xs.now)) c.args.xs.now ∙ ap (map f) (sym (shape-plan (length c.args.xs.now) some))
+
+pub returns-clause-told : goal.returns-clause-told
+returns-clause-told c =
+    let t = tree_at c.args.nodes.now.nodes c.args.root (plan 0 c.args.old) in
+    let some : 0 < length c.args.xs.now = omega (arith, c.requires.tree.1.some, c.requires.more) in
+    let old = old_whole c.args.nodes.now.nodes c.args.root c.args.old c.args.xs.now c.requires.tree c.requires.front in
+    let grown = whole_grown c.args.degree c.grow_nodes-grown.new.nodes.nodes c.grow_nodes-grown.result c.args.xs.now t (c.grow_nodes-grown.ensures.holds t old) in
+    ap Some grown.content ∙ sym (told_series-some (kept_or_fit c.args.degree c.args.xs.now (segs_of t)) c.args.xs.now some)

@@ -3,6 +3,7 @@ use Rattle.segment.specs.Growth.{made}
 use Rattle.segment.specs.Shape.{node_count}
 use Rattle.segment.proofs.GrowthLaws.{made-whole, few-made, made-self}
 use Rattle.seg_tree.specs.Linked.{used}
+use Rattle.seg_tree.proofs.GrownSeries.{grown_tree-none}
 use Rattle.seg_tree.proofs.GrownTrees.{tree-few}
 use Rattle.seg_tree.specs.Trees.{IsTreeAt}
 use Rattle.seg_tree.proofs.arena.Arena.append.Goals as goal
@@ -31,3 +32,6 @@ returns-clause-none c = λ e.
     let count : used c.grow_tree.new.nodes.nodes ≡ used c.args.self.now.nodes + made c.args.tree.n (c.args.tree.n + length c.args.xs.now) = search rules in
     let same : c.args.tree.n + length c.args.xs.now ≡ c.args.tree.n = omega (arith, e) in
     omega (arith, count, ap (made c.args.tree.n) same, made-self c.args.tree.n)
+
+pub returns-in_default-clause-grown : goal.returns-in_default-clause-grown
+returns-in_default-clause-grown c = rw (c.in_default.is, grown_tree-none c.args.self.now.degree c.args.xs.now) c.build.ensures.fitted

@@ -9,7 +9,7 @@ fn are_readings(xs: &[i32]) -> bool
     ensures { result ≡ true → AreReadings xs.now }
 {
     for x in xs {
-        if x.unsigned_abs() > 1_000_000_000 {
+        if x.unsigned_abs() > segment::GREATEST_READING {
             return false;
         }
     }
@@ -121,29 +121,32 @@ fn adopts_a_built_tree(rt: HostRuntime) -> Result<(), TreeErr> {
     Ok(())
 }
 
+/// A second tree keeps the nodes that it alone reaches, until a sweep without it gives their places back.
 #[test]
 fn appends_and_sweeps(rt: HostRuntime) -> Result<(), TreeErr> {
     assert!(rt; are_readings(&READINGS[..32]));
-    assert!(rt; are_readings(&[5]));
-    assert!(rt; are_readings(&[0]));
+    assert!(rt; are_readings(&[5]) && are_readings(&[0]));
     let mut arena = Arena::new(rt.alloc(), 0, 7);
     let first = arena.build(&READINGS[..32])?;
     assert_eq!(rt; arena.used(), 3);
 
-    let second = arena.append(first, &[5])?;
-    assert_eq!(rt; (second.n, arena.used()), (33, 5));
-    arena.sweep(&[second]);
-    assert_eq!(rt; arena.used(), 5);
+    let kept = arena.append(first, &[5])?;
+    arena.sweep(&[kept]);
+    assert_eq!(rt; (kept.n, arena.used()), (33, 5));
 
-    let third = arena.append(second, &[0])?;
-    assert_eq!(rt; (third.n, arena.used()), (34, 7));
-    assert_eq!(rt; arena.append(third, &[0]), Err(TreeErr::ArenaFull));
+    let longer = arena.append(kept, &[0])?;
+    arena.sweep(&[longer, kept]);
+    assert_eq!(rt; (longer.n, arena.used()), (34, 7));
+    assert_eq!(rt; arena.append(longer, &[0]), Err(TreeErr::ArenaFull));
 
-    arena.sweep(&[third]);
+    arena.sweep(&[longer]);
     assert_eq!(rt; arena.used(), 5);
-    let fourth = arena.append(third, &[0])?;
-    assert_eq!(rt; (fourth.n, arena.used()), (35, 7));
-    let Ok(xs) = arena.readings_of(fourth) else {
+    let longest = arena.append(longer, &[0])?;
+    assert_eq!(rt; arena.used(), 7);
+    arena.sweep(&[longest]);
+    assert_eq!(rt; (longest.n, arena.used()), (35, 5));
+
+    let Ok(xs) = arena.readings_of(longest) else {
         return Err(TreeErr::Memory)
     };
     assert_eq!(rt; &xs[..32], &READINGS[..32]);

@@ -1,6 +1,6 @@
 -- The bytes of small stores, worked out.
-use Rattle.std.specs.Prelude.{◌≡◌, ℕ, zero, suc, ℤ, pos, codes, List, [], ◌∷◌, ◌++◌, length, take, drop, replicate}
-use Rattle.segment.specs.Tree.{fitted_series}
+use Rattle.std.specs.Prelude.{◌≡◌, ℕ, zero, suc, ℤ, pos, negsuc, codes, List, [], ◌∷◌, ◌++◌, length, take, drop, replicate, Some}
+use Rattle.segment.specs.Tree.{tip, fitted_series}
 use Rattle.store_file.specs.StoreValue.{StoreValue, store_image}
 
 -- the store of scale 0 and degree 0 whose one series `x` has these readings
@@ -18,6 +18,28 @@ OneReadingHasBytes = store_image (store_with (pos 7 ∷ []))
     ++ (0 ∷ 0 ∷ 0 ∷ 0 ∷ 0 ∷ 0 ∷ 0 ∷ 7 ∷ [])
     ++ (0 ∷ 0 ∷ 0 ∷ 0 ∷ 0 ∷ 1 ∷ 192 ∷ 0 ∷ [])
     ++ (0 ∷ 0 ∷ 0 ∷ 7 ∷ [])
+
+-- a record whose six fields all differ, one of them below zero, over the one reading 8
+abbrev pub six_fields : StoreValue
+six_fields = record {
+  scale = 0;
+  degree = 2;
+  series = record {
+    name = codes "x";
+    tree = Some (tip (record { start = 0; len = 1; a = pos 1; b = negsuc 1; c = pos 3; l = 4; d = 5; f = 6 }) (pos 8 ∷ []));
+  } ∷ [];
+}
+
+-- they stand in the order `a`, `b`, `c`, `l`, `d`, `f`
+abbrev pub SixFieldsHaveBytes : Type 0
+SixFieldsHaveBytes = drop 14 (store_image six_fields)
+    ≡ (replicate 7 0 ++ 1 ∷ [])
+    ++ (replicate 7 255 ++ 254 ∷ [])
+    ++ (replicate 7 0 ++ 3 ∷ [])
+    ++ (replicate 15 0 ++ 4 ∷ [])
+    ++ (replicate 7 0 ++ 5 ∷ [])
+    ++ (replicate 7 0 ++ 6 ∷ [])
+    ++ (0 ∷ 0 ∷ 0 ∷ 8 ∷ [])
 
 -- 0 and 10, n times in turn
 abbrev pub turns : ℕ → List ℤ

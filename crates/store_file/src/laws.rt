@@ -3,7 +3,7 @@ ghost use Rattle.store_file.specs.Facts.{StoresHaveFacts};
 ghost use Rattle.store_file.specs.Grown.{AppendsAreLoads, FittedStoresAreOne, FittedStoresStay, GrowingKeepsStores, GrowthHasRoom};
 ghost use Rattle.store_file.specs.Header.{FixedReadsBack, EntryReadsBack};
 ghost use Rattle.store_file.specs.StoreValue.{ImagesDiffer};
-ghost use Rattle.store_file.specs.Worked.{OneReadingHasBytes, TurnsHaveBytes};
+ghost use Rattle.store_file.specs.Worked.{OneReadingHasBytes, SixFieldsHaveBytes, TurnsHaveBytes};
 
 /// Two stores never have the same bytes.
 pub fn images_differ()
@@ -16,9 +16,10 @@ pub fn headers_keep()
     ensures entry { EntryReadsBack }
 {}
 
-/// The bytes of two small stores: one reading 7, and 32 readings, 0 and 10 in turn.
+/// The bytes of small stores: one reading 7, a record whose fields all differ, and 32 readings, 0 and 10 in turn.
 pub fn small_stores_have_bytes()
     ensures one { OneReadingHasBytes }
+    ensures fields { SixFieldsHaveBytes }
     ensures turns { TurnsHaveBytes }
 {}
 

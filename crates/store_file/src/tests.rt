@@ -1,5 +1,10 @@
+ghost use Rattle.std.specs.Prelude.{◌≡◌, true};
+ghost use Rattle.segment.specs.Measure.{AreReadings};
+
 use super::*;
 use expr::Name;
+use segment::GREATEST_READING;
+use std::alloc::Global;
 use std::test::Fail;
 
 #[test]
@@ -40,5 +45,87 @@ fn reads_the_parts_of_a_header(rt: HostRuntime) -> Result<(), Fail> {
     assert_eq!(rt; (entry_len(1, 0), entry_len(1, 1)), (None, Some(6)));
     assert!(rt; read_entry(1, &[1, 120, 0, 16, 0, 0]).is_some());
     assert!(rt; read_entry(1, &[1, 49, 0, 0, 0, 1]).is_none());
+    Ok(())
+}
+
+/// Whether all are readings.
+fn are_readings(xs: &[i32]) -> bool
+    ensures { result ≡ true → AreReadings xs.now }
+{
+    for x in xs {
+        if x.unsigned_abs() > GREATEST_READING {
+            return false;
+        }
+    }
+    true
+}
+
+/// 151 readings, of which neighbours differ.
+fn readings() -> [i32; 151] {
+    let mut xs = [0; 151];
+    for i in 0..151u8 {
+        xs[i as usize] = i32::from(i) * 389 % 1009 - 500;
+    }
+    xs
+}
+
+/// The bytes of a store of degree 2 whose series `x` was loaded without readings and then given so many at a time.
+fn appended(alloc: Global, xs: &[i32], counts: &[usize]) -> Result<Vec<u8>, Fail> {
+    let Ok(mut store) = Store::new(alloc, 0, 2, 1000) else {
+        return Err(Fail::from("a store"))
+    };
+    let name = Name::of(b"x").ok_or("a name")?;
+    let Ok(()) = store.add_series(name, &[]) else {
+        return Err(Fail::from("a series"))
+    };
+    let mut rest = xs;
+    for count in counts {
+        let next = rest.get(..*count).ok_or("so many readings")?;
+        rest = rest.get(*count..).ok_or("the others")?;
+        if !are_readings(next) || store.append_series(&name, next).is_err() {
+            return Err(Fail::from("an append"));
+        }
+    }
+    let Ok(bytes) = store.encode() else {
+        return Err(Fail::from("its bytes"))
+    };
+    Ok(bytes)
+}
+
+#[test]
+fn appends_in_any_order_are_one_load(rt: HostRuntime) -> Result<(), Fail> {
+    let xs = readings();
+    let whole = appended(rt.alloc(), &xs, &[151])?;
+    assert_eq!(rt; whole.len(), 8 + 6 + 19 * 56 + 151 * 4);
+    for counts in [
+        [1, 2, 15, 16, 17, 100],
+        [100, 17, 16, 15, 2, 1],
+        [16, 1, 100, 2, 17, 15],
+        [15, 1, 16, 2, 100, 17],
+        [2, 15, 17, 1, 0, 116],
+    ] {
+        let bytes = appended(rt.alloc(), &xs, &counts)?;
+        assert_eq!(rt; bytes.as_slice(), whole.as_slice());
+    }
+    Ok(())
+}
+
+#[test]
+fn appends_as_far_as_the_arena_goes(rt: HostRuntime) -> Result<(), Fail> {
+    let mut turns = [0; 32];
+    for i in 0..16usize {
+        turns[2 * i + 1] = 10;
+    }
+    assert!(rt; are_readings(&turns));
+    let name = Name::of(b"x").ok_or("a name")?;
+    for (limit, answer, used) in [(4, Err(SeriesErr::ArenaFull), 3), (5, Ok(33), 5)] {
+        let Ok(mut store) = Store::new(rt.alloc(), 0, 0, limit) else {
+            return Err(Fail::from("a store"))
+        };
+        assert_eq!(rt; store.append_series(&name, &[5]), Err(SeriesErr::Unknown));
+        assert_eq!(rt; store.add_series(name, &turns), Ok(()));
+        assert_eq!(rt; store.append_series(&name, &[5]), answer);
+        assert_eq!(rt; store.arena.used(), used);
+    }
     Ok(())
 }

@@ -56,3 +56,26 @@ fn records_and_their_places(rt: HostRuntime) -> Result<(), Fail> {
     assert_eq!(rt; (offset_of(32, 0, 15), offset_of(0, 0, 0)), (None, None));
     Ok(())
 }
+
+/// Six fields that all differ, one of them below zero.
+#[test]
+fn fields_stand_in_order(rt: HostRuntime) {
+    let seg = Seg {
+        start: 0,
+        len: 16,
+        a: 1,
+        b: -2,
+        c: 3,
+        l: 4,
+        d: 5,
+        f: 6,
+    };
+    let mut record = [0; 56];
+    write_seg(&seg, &mut record);
+    assert_eq!(rt; (record[7], record[8], record[15]), (1, 255, 254));
+    assert_eq!(rt;
+        (record[23], record[39], record[47], record[55]),
+        (3, 4, 5, 6)
+    );
+    assert_eq!(rt; read_seg(&record, 0, 16), seg);
+}

@@ -15,7 +15,7 @@ fn are_readings(xs: &[i32]) -> bool
     ensures { result ≡ true → AreReadings xs.now }
 {
     for x in xs {
-        if x.unsigned_abs() > 1_000_000_000 {
+        if x.unsigned_abs() > segment::GREATEST_READING {
             return false;
         }
     }

@@ -1,0 +1,48 @@
+use Rattle.std.proofs.Common.{◌≡◌, ◌<◌, ◌≤◌, List, Option, None, Some, length, set, get_or, sym, ap, subst, ◌∙◌, arith}
+use Rattle.std.proofs.lemmas.List.{length-set}
+use Rattle.descent.specs.Rows.{Track}
+use Rattle.descent.specs.CutFields.{before_of, restored_at, CanBeTakenBack}
+use Rattle.descent.specs.Held.{Held, CutView}
+use Rattle.descent.specs.Laid.{held, restored, CanGoBack}
+use Rattle.descent.proofs.Backs.{can-at, set-restored}
+use Rattle.descent.proofs.Tracks.{rising-set}
+use Rattle.descent.proofs.cuts.Cut.take_back.Goals as goal
+
+pub index_mut-requires : goal.index_mut-requires
+index_mut-requires g c =
+    let xs = c.self.inside.tables.items in
+    let ch = c.in-Some.change in
+    let lt = (can-at xs ch.table ch.row (subst (CanBeTakenBack xs) c.in-Some.is c.self.invariant.back)).0 in
+    let ok = c.self.inside.tables.ok.0 in
+    omega arith
+
+pub put_back-requires : goal.put_back-requires
+put_back-requires g c =
+    let xs = c.self.inside.tables.items in
+    let ch = c.in-Some.change in
+    let t = c.index_mut.result.now in
+    let can = (can-at xs ch.table ch.row (subst (CanBeTakenBack xs) c.in-Some.is c.self.invariant.back)).1 t in
+    subst (λ (u : Track (Held g.row.I.Denot)). CanGoBack ch.row u.rows) (sym c.index_mut.ensures.value) can
+
+pub invariant_of-self : goal.invariant_of-self
+invariant_of-self g c =
+    let xs = c.self.inside.tables.items in
+    let ch = c.in-Some.change in
+    let t = c.index_mut.result.now in
+    let lt = (can-at xs ch.table ch.row (subst (CanBeTakenBack xs) c.in-Some.is c.self.invariant.back)).0 in
+    let n = length-set xs ch.table c.put_back.new.self in
+    record {
+      few = omega (arith, c.self.invariant.few, n);
+      rising = rising-set 0 xs ch.table c.put_back.new.self t c.self.invariant.rising lt (ap (λ (q : Track (Held g.row.I.Denot)). q.series) c.put_back.ensures ∙ ap (λ (q : Track (Held g.row.I.Denot)). q.series) c.index_mut.ensures.value);
+      back = tt;
+    }
+
+pub returns-clause-tracks : goal.returns-clause-tracks
+returns-clause-tracks g c =
+    let xs = c.self.inside.tables.items in
+    let ch = c.in-Some.change in
+    let t = c.index_mut.result.now in
+    let h = held ch.row in
+    let lt = (can-at xs ch.table ch.row (subst (CanBeTakenBack xs) c.in-Some.is c.self.invariant.back)).0 in
+    let e : c.put_back.new.self ≡ record (get_or xs ch.table t) { rows = restored h (get_or xs ch.table t).rows } = c.put_back.ensures ∙ ap (λ (u : Track (Held g.row.I.Denot)). let v : Track (Held g.row.I.Denot) = record u { rows = restored h u.rows } in v) c.index_mut.ensures.value in
+    ap (λ (v : CutView g.row.I.Denot). v.before) (sym c.self.view_is) ∙ ap (before_of xs) c.in-Some.is ∙ ap Some (sym (set-restored xs ch.table h t c.put_back.new.self lt e))

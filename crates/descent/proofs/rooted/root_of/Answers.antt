@@ -1,0 +1,39 @@
+use Rattle.std.proofs.Common.{◌≡◌, Some, refl, sym, ap, subst, ◌∙◌}
+use Rattle.std.specs.Prelude.{slice_index}
+use Rattle.segment.specs.Nodes.{root_place, seg_at}
+use Rattle.descent.specs.Rows.{with_rows}
+use Rattle.descent.specs.Held.{row_in, head_of, IsTrackOf}
+use Rattle.descent.specs.Known.{root_head}
+use Rattle.descent.specs.Laid.{root_table}
+use Rattle.descent.proofs.RootLaws.{for_some, root-shown, root-track-of, root-head-of}
+use Rattle.descent.proofs.rooted.root_of.Goals as goal
+
+pub returns-clause-root : goal.returns-clause-root
+returns-clause-root g c =
+    let lengths = g.N.Nodes.lengths c.args.nodes.now in
+    let n = slice_index lengths c.args.series in
+    let o = c.in_ok-root.root in
+    let is : c.in_ok-table.table ≡ root_table c.args.series c.args.name n o = c.in_ok-table.ensures ∙ ap (λ k. root_table c.args.series c.args.name k o) c.readings_len-len.ensures.value in
+    λ forest m.
+    ap (with_rows row_in) is ∙ root-shown lengths forest c.args.series c.args.name n o (g.met.N.Nodes.fits c.args.nodes.now c.args.source.now forest m) c.requires.series refl c.in_ok-root.ensures.none
+    (for_some _ (λ r. seg_at forest (root_place c.args.series n) ≡ Some r.1) o (λ r h. h forest m) c.in_ok-root.ensures.seg)
+
+pub returns-clause-of : goal.returns-clause-of
+returns-clause-of g c =
+    let lengths = g.N.Nodes.lengths c.args.nodes.now in
+    let n = slice_index lengths c.args.series in
+    let o = c.in_ok-root.root in
+    let stands = g.N.Nodes.stands c.root.new.self c.root.new.source in
+    let known = g.N.Nodes.roots c.root.new.self in
+    let is : c.in_ok-table.table ≡ root_table c.args.series c.args.name n o = c.in_ok-table.ensures ∙ ap (λ k. root_table c.args.series c.args.name k o) c.readings_len-len.ensures.value in
+    let of = root-track-of lengths known stands c.args.series c.args.name n o c.requires.series refl c.in_ok-root.ensures.none c.in_ok-root.ensures.starts c.in_ok-root.ensures.spans c.in_ok-root.ensures.stands c.in_ok-root.ensures.known in
+    subst (λ t. IsTrackOf (g.N.Nodes.lengths c.root.new.self) known stands t) (sym is) (subst (λ ls. IsTrackOf ls known stands (root_table c.args.series c.args.name n o)) (sym c.root.ensures.lengths) of)
+
+pub returns-clause-head : goal.returns-clause-head
+returns-clause-head g c =
+    let lengths = g.N.Nodes.lengths c.args.nodes.now in
+    let n = slice_index lengths c.args.series in
+    let o = c.in_ok-root.root in
+    let known = g.N.Nodes.roots c.root.new.self in
+    let is : c.in_ok-table.table ≡ root_table c.args.series c.args.name n o = c.in_ok-table.ensures ∙ ap (λ k. root_table c.args.series c.args.name k o) c.readings_len-len.ensures.value in
+    ap head_of is ∙ root-head-of lengths known c.args.series c.args.name n o refl c.in_ok-root.ensures.none c.in_ok-root.ensures.known ∙ ap (λ ls. root_head ls known c.args.series c.args.name) (sym c.root.ensures.lengths)

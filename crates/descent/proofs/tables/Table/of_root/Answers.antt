@@ -1,0 +1,29 @@
+use Rattle.std.proofs.lemmas.List.{length-set, length-replicate}
+use Rattle.std.specs.Prelude.{replicate}
+use Rattle.std.proofs.Common.{◌≡◌, Some, set, length, ap, sym, ◌∙◌, map, List, [], ◌∷◌, None, arith}
+use Rattle.descent.specs.declared.tables.Row.{Row}
+use Rattle.descent.specs.Rows.{Track}
+use Rattle.descent.specs.Held.{Held}
+use Rattle.descent.specs.Laid.{blocks, held, present, IsWholeRoot, root_table}
+use Rattle.descent.proofs.Places.{root-rows}
+use Rattle.descent.proofs.tables.Table.of_root.Goals as goal
+
+pub invariant_of-result-2 : goal.invariant_of-result-2
+invariant_of-result-2 g c =
+    let w : IsWholeRoot c.args.len c.in-Some.node = rw c.in-Some.is at c.requires.whole in
+    let row : Row g.row.I.Denot = record { id = c.in-Some.node.0; seg = c.in-Some.node.1; readings = None } in
+    let e : c.div_ceil.result ≡ blocks c.args.len = omega (arith, c.div_ceil.ensures) in
+    let r = root-rows c.args.len c.div_ceil.result row e w.some w.starts w.spans in
+    let few = c.requires.few in
+    let n : length (set (replicate c.div_ceil.result None) 0 (Some row)) ≡ c.div_ceil.result = length-set (replicate c.div_ceil.result None) 0 (Some row) ∙ length-replicate c.div_ceil.result None in
+    record { laid = rw (c.put_one.ensures, c.in_ok-places.ensures) r.0; few = rw (c.put_one.ensures, c.in_ok-places.ensures) (omega arith) }
+
+pub returns : goal.returns
+returns g c =
+    let w : IsWholeRoot c.args.len c.in-Some.node = rw c.in-Some.is at c.requires.whole in
+    let row : Row g.row.I.Denot = record { id = c.in-Some.node.0; seg = c.in-Some.node.1; readings = None } in
+    let e : c.div_ceil.result ≡ blocks c.args.len = omega (arith, c.div_ceil.ensures) in
+    let r = root-rows c.args.len c.div_ceil.result row e w.some w.starts w.spans in
+    let rows : present c.put_one.new.places.items ≡ row ∷ [] = rw (c.put_one.ensures, c.in_ok-places.ensures) r.1 in
+    ap (λ (rs : List (Row g.row.I.Denot)). let t : Track (Held g.row.I.Denot) = record { series = c.args.series; name = c.args.name; len = c.args.len; greatest = c.in-Some.node.1.d; rows = map held rs } in t) rows
+    ∙ sym (ap (root_table c.args.series c.args.name c.args.len) c.in-Some.is)

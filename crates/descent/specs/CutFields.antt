@@ -1,0 +1,37 @@
+-- The fields of a cut, and what contracts see of them.
+use Rattle.std.specs.Prelude.{ℕ, zero, suc, ◌≤◌, length, List, [], ◌∷◌, Option, Some, None}
+use Rattle.expr.specs.Terms.{query_term_of}
+use Rattle.descent.specs.declared.cuts.Change.{Change}
+use Rattle.descent.specs.declared.cuts.Cut.TheInside.{Inside}
+use Rattle.descent.specs.declared.tables.Row.{Row}
+use Rattle.descent.specs.Rows.{Track}
+use Rattle.descent.specs.Held.{Held, CutView, AreRising}
+use Rattle.descent.specs.Laid.{held, restored, CanGoBack}
+use Rattle.descent.specs.Spelled.{spelled}
+
+-- the tracks, where the rows of the k-th are as before
+abbrev pub restored_at : {I : Type 0} → ℕ → Held I → List (Track (Held I)) → List (Track (Held I))
+restored_at k old [] = []
+restored_at zero old (track ∷ tracks) = record track { rows = restored old track.rows } ∷ tracks
+restored_at (suc k) old (track ∷ tracks) = track ∷ restored_at k old tracks
+
+abbrev pub before_of : {I : Type 0} → List (Track (Held I)) → Option (Change I) → Option (List (Track (Held I)))
+before_of tracks None = None
+before_of tracks (Some change) = Some (restored_at change.table (held change.row) tracks)
+
+abbrev pub view_of : {I : Type 0} → Inside I → CutView I
+view_of c = record { query = spelled (query_term_of c.query); tracks = c.tables.items; before = before_of c.tables.items c.last }
+
+abbrev pub CanGoBackAt : {I : Type 0} → ℕ → Row I → List (Track (Held I)) → Type 0
+CanGoBackAt k old [] = ⊥
+CanGoBackAt zero old (track ∷ tracks) = CanGoBack old track.rows
+CanGoBackAt (suc k) old (track ∷ tracks) = CanGoBackAt k old tracks
+
+abbrev pub CanBeTakenBack : {I : Type 0} → List (Track (Held I)) → Option (Change I) → Type 0
+CanBeTakenBack tracks None = Unit {0}
+CanBeTakenBack tracks (Some change) = CanGoBackAt change.table change.row tracks
+
+pub record IsCut {I : Type 0} (c : Inside I) : Type 0 where
+  pub few : length c.tables.items ≤ 16
+  pub rising : AreRising 0 c.tables.items
+  pub back : CanBeTakenBack c.tables.items c.last

@@ -1,0 +1,13 @@
+pub mod Rows
+pub mod Sums
+pub mod Choice
+pub mod Descents
+pub mod Laws
+pub mod Worked
+pub mod Held
+pub mod Laid
+pub mod CutFields
+pub mod Stepped
+pub mod Spelled
+pub mod Told
+pub mod Known

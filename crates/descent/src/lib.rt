@@ -1,0 +1,47 @@
+//! Cuts over several series, the choice of a row, and the descent to a budget.
+#![tactic(auto)]
+
+ghost use Rattle.descent.specs.Laws.{EachBudgetIsMet, EachCutHoldsTheValue};
+ghost use Rattle.descent.specs.Spelled.{SpellingTellsQueries};
+ghost use Rattle.descent.specs.Worked.{DescentsAreWorked, OtherSumsAreWorked, ProductsAreWorked};
+
+mod cuts;
+mod descents;
+mod naming;
+mod rooted;
+mod rows;
+mod tables;
+
+pub use cuts::Cut;
+pub use descents::{Answer, DescentErr, descend};
+pub use rooted::roots;
+pub use rows::{CutRow, Rows};
+
+/// A row, by its series and start.
+#[derive(Clone, Copy, Debug, Drop, PartialEq, Eq)]
+pub struct Pick {
+    pub series: u32,
+    pub start: u32,
+}
+
+/// Worked descents.
+pub fn descents_are_worked()
+    ensures whole { DescentsAreWorked }
+    ensures others { OtherSumsAreWorked }
+    ensures products { ProductsAreWorked }
+{}
+
+/// Every budget is met by one cut, a budget of 0 too.
+pub fn every_budget_is_met()
+    ensures { EachBudgetIsMet }
+{}
+
+/// No two queries are spelled alike.
+pub fn spelling_tells_queries()
+    ensures { SpellingTellsQueries }
+{}
+
+/// The interval of each cut of a descent holds the value of the query.
+pub fn every_cut_holds_the_value()
+    ensures { EachCutHoldsTheValue }
+{}

@@ -7,6 +7,7 @@ pub mod CanonicalShort
 pub mod CanonicalTokens
 pub mod Found
 pub mod FoundQuery
+pub mod ParsesLaws
 pub mod Passes
 pub mod Rows
 pub mod Scanned

@@ -9,7 +9,7 @@ use Rattle.expr_parse.specs.declared.lexeme.Lexeme.TheVariants.{Number, Named, S
 use Rattle.expr_parse.specs.SeriesGrammar as s
 use Rattle.expr_parse.specs.SeriesGrammar.{IsWhole, IsPlace, IsRange, positive, negative, range}
 use Rattle.expr_parse.specs.QueryGrammar as q
-use Rattle.expr_parse.specs.Pending.{Entry, after, sticks, query, more_query, series, more_series, ends, whole, place, number, near, name, sum, varnum, covnum, const, shift, open_sign, close_sign, comma_sign, plus_sign, minus_sign, times_sign}
+use Rattle.expr_parse.specs.Pending.{Pending, after, sticks, query, more_query, series, more_series, ends, whole, place, number, near, name, sum, varnum, covnum, const, shift, open_sign, close_sign, comma_sign, plus_sign, minus_sign, times_sign}
 use Rattle.expr_parse.proofs.Passes.{abs_of_negative}
 
 -- what is read of one kind of chain up to some tokens: a product, or a sum, a sign and a product
@@ -132,7 +132,7 @@ record EndsSpelled (ts : List Lexeme) (Behind : List Lexeme → Type 0) : Type 0
   behind : Behind rest
 
 -- the tokens are what the entries ask for
-abbrev Spelled : List Entry → List Lexeme → Type 0
+abbrev Spelled : List Pending → List Lexeme → Type 0
 Spelled [] ts = ts ≡ []
 Spelled (query ∷ es) ts = QuerySpelled ts (Spelled es)
 Spelled (more_query ∷ es) ts = MoreQuerySpelled ts (Spelled es)
@@ -157,7 +157,7 @@ Spelled (minus_sign ∷ es) ts = SignSpelled Minus ts (Spelled es)
 Spelled (times_sign ∷ es) ts = SignSpelled Times ts (Spelled es)
 
 -- two places behind commas, and the closing sign
-spelled_range : (ts : List Lexeme) (es : List Entry) → Spelled (comma_sign ∷ place ∷ comma_sign ∷ place ∷ close_sign ∷ es) ts → (b : Range) × (rest : List Lexeme) × IsRange ts rest b × Spelled es rest
+spelled_range : (ts : List Lexeme) (es : List Pending) → Spelled (comma_sign ∷ place ∷ comma_sign ∷ place ∷ close_sign ∷ es) ts → (b : Range) × (rest : List Lexeme) × IsRange ts rest b × Spelled es rest
 spelled_range ts es h =
     let l = h.behind in
     let c = l.behind in
@@ -168,7 +168,7 @@ spelled_range ts es h =
 small_of : (m : ℕ) → nat_le m (2 ^ 40) ≡ true → m ≤ 2 ^ 40
 small_of m e = grind (arith, common_steps)
 
-near_taken : (b : Bool) (m : ℕ) (es : List Entry) (ts : List Lexeme) → nat_le m (2 ^ 40) ≡ b → ((fs : List Entry) → cond b (Some es) None ≡ Some fs → Spelled fs ts) → (cond b (Some es) None ≡ None → ⊥) → (m ≤ 2 ^ 40) × Spelled es ts
+near_taken : (b : Bool) (m : ℕ) (es : List Pending) (ts : List Lexeme) → nat_le m (2 ^ 40) ≡ b → ((fs : List Pending) → cond b (Some es) None ≡ Some fs → Spelled fs ts) → (cond b (Some es) None ≡ None → ⊥) → (m ≤ 2 ^ 40) × Spelled es ts
 near_taken true m es ts e k n = (small_of m e, k es refl)
 near_taken false m es ts e k n = absurd (n refl)
 
@@ -177,7 +177,7 @@ sum_spelled : (ts first mid last : List Lexeme) (u : Term) (B : List Lexeme → 
 sum_spelled ts first mid last u B e a (inl f) m = record { mid = last; rest = m.rest; term = t.sum u None; factor = rw e (q.sum_of (rw f at a)); extends = m.extends; behind = m.behind }
 sum_spelled ts first mid last u B e a (inr r) m = record { mid = last; rest = m.rest; term = t.sum u (Some r.0); factor = rw e (q.sum_over a r.1); extends = m.extends; behind = m.behind }
 
-go : (es : List Entry) (t : Lexeme) (ts : List Lexeme) → ((fs : List Entry) → after es t ≡ Some fs → Spelled fs ts) → (after es t ≡ None → ⊥) → Spelled es (t ∷ ts)
+go : (es : List Pending) (t : Lexeme) (ts : List Lexeme) → ((fs : List Pending) → after es t ≡ Some fs → Spelled fs ts) → (after es t ≡ None → ⊥) → Spelled es (t ∷ ts)
 go [] t ts k n = absurd (n refl)
 go (query ∷ es) (Number m) ts k n =
     let h = k (more_query ∷ es) refl in
@@ -300,16 +300,16 @@ go (minus_sign ∷ es) Minus ts k n = record { rest = ts; is = refl; behind = k 
 go (times_sign ∷ es) Times ts k n = record { rest = ts; is = refl; behind = k es refl }
 go (_ ∷ es) t ts k n = absurd (n refl)
 
-at_end : (es : List Entry) → sticks es [] ≡ None → Spelled es []
+at_end : (es : List Pending) → sticks es [] ≡ None → Spelled es []
 at_end [] h = refl
 at_end (more_query ∷ es) h = record { rest = []; extends = λ first p. query_closed p; behind = at_end es h }
 at_end (more_series ∷ es) h = record { rest = []; extends = λ first p. series_closed p; behind = at_end es h }
 at_end (_ ∷ es) h = cc h
 
-spelled : (ts : List Lexeme) (es : List Entry) → sticks es ts ≡ None → Spelled es ts
+spelled : (ts : List Lexeme) (es : List Pending) → sticks es ts ≡ None → Spelled es ts
 spelled [] es h = at_end es h
 spelled (t ∷ ts) es h =
-    let onward : Option (List Entry) → Option ℕ = elim [ None ↦ Some (suc (length ts)) | Some fs ↦ sticks fs ts ] in
+    let onward : Option (List Pending) → Option ℕ = elim [ None ↦ Some (suc (length ts)) | Some fs ↦ sticks fs ts ] in
     go es t ts
     (λ fs e. spelled ts fs (sym (ap onward e) ∙ h))
     (λ e. let f : Some (suc (length ts)) ≡ None = sym (ap onward e) ∙ h in cc f)

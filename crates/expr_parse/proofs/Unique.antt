@@ -8,7 +8,7 @@ use Rattle.expr_parse.specs.declared.lexeme.Lexeme.TheVariants.{Number, Sum, Var
 use Rattle.expr_parse.specs.SeriesGrammar as s
 use Rattle.expr_parse.specs.SeriesGrammar.{IsWhole, IsPlace, IsRange, positive, negative, range}
 use Rattle.expr_parse.specs.QueryGrammar as q
-use Rattle.expr_parse.specs.Pending.{Entry, query, more_query, series, more_series, ends, whole, place, near, close_sign, comma_sign}
+use Rattle.expr_parse.specs.Pending.{Pending, query, more_query, series, more_series, ends, whole, place, near, close_sign, comma_sign}
 use Rattle.expr_parse.proofs.Passes.{abs_of_negative}
 use Rattle.expr_parse.specs.Reading.{More, end, plus, minus, times, query_chain, series_chain, query_tree, series_tree, read, range_from, tree_of}
 
@@ -34,24 +34,24 @@ map_same f g h None = refl
 map_same f g h (Some a) = ap Some (h a)
 
 -- a whole number, a place, a range
-whole_read : {ts rest : List Lexeme} {v : ℤ} → IsWhole ts rest v → (es : List Entry) → read ts (whole ∷ es) ≡ option_map (λ p. (v, p)) (read rest es)
+whole_read : {ts rest : List Lexeme} {v : ℤ} → IsWhole ts rest v → (es : List Pending) → read ts (whole ∷ es) ≡ option_map (λ p. (v, p)) (read rest es)
 whole_read positive es = refl
 whole_read negative es = map_map _ _ _
 
-near_read : (n : ℕ) (es : List Entry) (rest : List Lexeme) → n ≤ 2 ^ 40 → read (Number n ∷ rest) (near ∷ es) ≡ option_map (λ p. (n, p)) (read rest es)
+near_read : (n : ℕ) (es : List Pending) (rest : List Lexeme) → n ≤ 2 ^ 40 → read (Number n ∷ rest) (near ∷ es) ≡ option_map (λ p. (n, p)) (read rest es)
 near_read n es rest h = rw (le-leb n (2 ^ 40) h, read) refl
 
-place_read : {ts rest : List Lexeme} {v : ℤ} → IsWhole ts rest v → unsigned_abs v ≤ 2 ^ 40 → (es : List Entry) → read ts (place ∷ es) ≡ option_map (λ p. (v, p)) (read rest es)
+place_read : {ts rest : List Lexeme} {v : ℤ} → IsWhole ts rest v → unsigned_abs v ≤ 2 ^ 40 → (es : List Pending) → read ts (place ∷ es) ≡ option_map (λ p. (v, p)) (read rest es)
 place_read (positive {n = n} {rest = rest}) h es = rw (le-leb n (2 ^ 40) h, read) refl
 place_read (negative {n = n} {rest = rest}) h es = ap (option_map (λ p. (neg_ℤ (pos p.0), p.1))) (near_read n es rest (rw abs_of_negative at h)) ∙ map_map _ _ _
 
-range_read : {ts rest : List Lexeme} {b : Range} → IsRange ts rest b → (es : List Entry) → read ts (comma_sign ∷ place ∷ comma_sign ∷ place ∷ close_sign ∷ es) ≡ option_map (λ p. (b.left, (b.right, p))) (read rest es)
+range_read : {ts rest : List Lexeme} {b : Range} → IsRange ts rest b → (es : List Pending) → read ts (comma_sign ∷ place ∷ comma_sign ∷ place ∷ close_sign ∷ es) ≡ option_map (λ p. (b.left, (b.right, p))) (read rest es)
 range_read (range l r) es = place_read l.0 l.1 (comma_sign ∷ place ∷ close_sign ∷ es) ∙ ap (option_map (λ p. (_, p))) (place_read r.0 r.1 (close_sign ∷ es)) ∙ map_map _ _ _
 
-range_ends : {ts rest : List Lexeme} {b : Range} → IsRange ts rest b → (es : List Entry) → read ts (ends ∷ es) ≡ option_map (λ p. (Some b, p)) (read rest es)
+range_ends : {ts rest : List Lexeme} {b : Range} → IsRange ts rest b → (es : List Pending) → read ts (ends ∷ es) ≡ option_map (λ p. (Some b, p)) (read rest es)
 range_ends (range l r) es = ap (option_map (λ p. (Some (range_from p.0 p.1.0), p.1.1))) (range_read (range l r) es) ∙ map_map _ _ _
 
-range_more_series : {ts rest : List Lexeme} {b : Range} → IsRange ts rest b → (es : List Entry) → read ts (more_series ∷ es) ≡ option_map (λ p. (end, p)) (read ts es)
+range_more_series : {ts rest : List Lexeme} {b : Range} → IsRange ts rest b → (es : List Pending) → read ts (more_series ∷ es) ≡ option_map (λ p. (end, p)) (read ts es)
 range_more_series (range l r) es = refl
 
 -- a product is a factor and operators that are all `*`
@@ -59,7 +59,7 @@ pub record SeriesProductRead (ts rest : List Lexeme) (u : Term) : Type 0 where
   pub first : Term
   pub more : More Term
   pub joined : (sum : Term → Term) (ns : More Term) → series_chain sum first (join more ns) ≡ series_chain sum u ns
-  pub reads : (es : List Entry) → read ts (series ∷ es) ≡ option_map (λ p. ((first, join more p.0), p.1)) (read rest (more_series ∷ es))
+  pub reads : (es : List Pending) → read ts (series ∷ es) ≡ option_map (λ p. ((first, join more p.0), p.1)) (read rest (more_series ∷ es))
 
 -- a sum is a factor and operators, of which those behind the last `+` or `-` are all `*`
 pub record SeriesRead (ts rest : List Lexeme) (u : Term) : Type 0 where
@@ -69,10 +69,10 @@ pub record SeriesRead (ts rest : List Lexeme) (u : Term) : Type 0 where
   pub last : Term
   pub whole_is : u ≡ sum last
   pub joined : (ns : More Term) → series_chain (λ v. v) first (join more ns) ≡ series_chain sum last ns
-  pub reads : (es : List Entry) → read ts (series ∷ es) ≡ option_map (λ p. ((first, join more p.0), p.1)) (read rest (more_series ∷ es))
+  pub reads : (es : List Pending) → read ts (series ∷ es) ≡ option_map (λ p. ((first, join more p.0), p.1)) (read rest (more_series ∷ es))
 
 abbrev pub SeriesFactorRead : List Lexeme → List Lexeme → Term → Type 0
-SeriesFactorRead ts rest u = (es : List Entry) → read ts (series ∷ es) ≡ option_map (λ p. ((u, p.0), p.1)) (read rest (more_series ∷ es))
+SeriesFactorRead ts rest u = (es : List Pending) → read ts (series ∷ es) ≡ option_map (λ p. ((u, p.0), p.1)) (read rest (more_series ∷ es))
 
 Series_times : {ts mid rest : List Lexeme} {u v : Term} → SeriesProductRead ts (Times ∷ mid) u → SeriesFactorRead mid rest v → SeriesProductRead ts rest (t.times u v)
 Series_times {v = v} p f = record {
@@ -114,9 +114,9 @@ Series_factor {u = u} f = record { first = u; more = end; joined = λ sum ns. re
 pub record SeriesClosed (ts rest : List Lexeme) (u : Term) : Type 0 where
   pub chain : Term × More Term
   pub tree : series_tree chain ≡ u
-  pub reads : (es : List Entry) → read ts (series ∷ es) ≡ option_map (λ p. (chain, p)) (read rest es)
+  pub reads : (es : List Pending) → read ts (series ∷ es) ≡ option_map (λ p. (chain, p)) (read rest es)
 
-Series_closed : {ts rest : List Lexeme} {u : Term} → SeriesRead ts rest u → ((es : List Entry) → read rest (more_series ∷ es) ≡ option_map (λ p. (end, p)) (read rest es)) → SeriesClosed ts rest u
+Series_closed : {ts rest : List Lexeme} {u : Term} → SeriesRead ts rest u → ((es : List Pending) → read rest (more_series ∷ es) ≡ option_map (λ p. (end, p)) (read rest es)) → SeriesClosed ts rest u
 Series_closed a h = record {
   chain = (a.first, join a.more end);
   tree = a.joined end ∙ sym a.whole_is;
@@ -164,7 +164,7 @@ pub record QueryProductRead (ts rest : List Lexeme) (u : QueryTerm) : Type 0 whe
   pub first : QueryTerm
   pub more : More QueryTerm
   pub joined : (sum : QueryTerm → QueryTerm) (ns : More QueryTerm) → query_chain sum first (join more ns) ≡ query_chain sum u ns
-  pub reads : (es : List Entry) → read ts (query ∷ es) ≡ option_map (λ p. ((first, join more p.0), p.1)) (read rest (more_query ∷ es))
+  pub reads : (es : List Pending) → read ts (query ∷ es) ≡ option_map (λ p. ((first, join more p.0), p.1)) (read rest (more_query ∷ es))
 
 -- a sum is a factor and operators, of which those behind the last `+` or `-` are all `*`
 pub record QueryRead (ts rest : List Lexeme) (u : QueryTerm) : Type 0 where
@@ -174,10 +174,10 @@ pub record QueryRead (ts rest : List Lexeme) (u : QueryTerm) : Type 0 where
   pub last : QueryTerm
   pub whole_is : u ≡ sum last
   pub joined : (ns : More QueryTerm) → query_chain (λ v. v) first (join more ns) ≡ query_chain sum last ns
-  pub reads : (es : List Entry) → read ts (query ∷ es) ≡ option_map (λ p. ((first, join more p.0), p.1)) (read rest (more_query ∷ es))
+  pub reads : (es : List Pending) → read ts (query ∷ es) ≡ option_map (λ p. ((first, join more p.0), p.1)) (read rest (more_query ∷ es))
 
 abbrev pub QueryFactorRead : List Lexeme → List Lexeme → QueryTerm → Type 0
-QueryFactorRead ts rest u = (es : List Entry) → read ts (query ∷ es) ≡ option_map (λ p. ((u, p.0), p.1)) (read rest (more_query ∷ es))
+QueryFactorRead ts rest u = (es : List Pending) → read ts (query ∷ es) ≡ option_map (λ p. ((u, p.0), p.1)) (read rest (more_query ∷ es))
 
 Query_times : {ts mid rest : List Lexeme} {u v : QueryTerm} → QueryProductRead ts (Times ∷ mid) u → QueryFactorRead mid rest v → QueryProductRead ts rest (t.mul u v)
 Query_times {v = v} p f = record {
@@ -219,9 +219,9 @@ Query_factor {u = u} f = record { first = u; more = end; joined = λ sum ns. ref
 pub record QueryClosed (ts rest : List Lexeme) (u : QueryTerm) : Type 0 where
   pub chain : QueryTerm × More QueryTerm
   pub tree : query_tree chain ≡ u
-  pub reads : (es : List Entry) → read ts (query ∷ es) ≡ option_map (λ p. (chain, p)) (read rest es)
+  pub reads : (es : List Pending) → read ts (query ∷ es) ≡ option_map (λ p. (chain, p)) (read rest es)
 
-Query_closed : {ts rest : List Lexeme} {u : QueryTerm} → QueryRead ts rest u → ((es : List Entry) → read rest (more_query ∷ es) ≡ option_map (λ p. (end, p)) (read rest es)) → QueryClosed ts rest u
+Query_closed : {ts rest : List Lexeme} {u : QueryTerm} → QueryRead ts rest u → ((es : List Pending) → read rest (more_query ∷ es) ≡ option_map (λ p. (end, p)) (read rest es)) → QueryClosed ts rest u
 Query_closed a h = record {
   chain = (a.first, join a.more end);
   tree = a.joined end ∙ sym a.whole_is;

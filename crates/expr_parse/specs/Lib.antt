@@ -3,6 +3,7 @@ pub mod Lexemes
 pub mod Magnitudes
 pub mod Nesting
 pub mod Parsed
+pub mod Parses
 pub mod Pending
 pub mod Printed
 pub mod QueryGrammar

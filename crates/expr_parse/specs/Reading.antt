@@ -5,7 +5,7 @@ use Rattle.semantics.specs.Term as t
 use Rattle.semantics.specs.Term.{Term, Range, QueryTerm}
 use Rattle.expr_parse.specs.declared.lexeme.Lexeme.{Lexeme}
 use Rattle.expr_parse.specs.declared.lexeme.Lexeme.TheVariants.{Number, Named, Sum, VarNum, CovNum, Const, Shift, Open, Close, Comma, Plus, Minus, Times}
-use Rattle.expr_parse.specs.Pending.{Entry, query, more_query, series, more_series, ends, whole, place, number, near, name, open_sign, close_sign, comma_sign}
+use Rattle.expr_parse.specs.Pending.{Pending, query, more_query, series, more_series, ends, whole, place, number, near, name, open_sign, close_sign, comma_sign}
 
 -- the operators behind a factor, each with its factor
 pub data More (T : Type 0) : Type 0 where
@@ -34,7 +34,7 @@ abbrev pub series_tree : Term × More Term → Term
 series_tree c = series_chain (λ u. u) c.0 c.1
 
 -- what pending entries come to
-abbrev pub Parts : List Entry → Type 0
+abbrev pub Parts : List Pending → Type 0
 Parts [] = Unit {0}
 Parts (query ∷ es) = (QueryTerm × More QueryTerm) × Parts es
 Parts (more_query ∷ es) = More QueryTerm × Parts es
@@ -49,7 +49,7 @@ Parts (name ∷ es) = List ℕ × Parts es
 Parts (_ ∷ es) = Parts es
 
 -- where no token is left
-abbrev pub at_end : (es : List Entry) → Option (Parts es)
+abbrev pub at_end : (es : List Pending) → Option (Parts es)
 at_end [] = Some tt
 at_end (more_query ∷ es) = option_map (λ p. (end, p)) (at_end es)
 at_end (more_series ∷ es) = option_map (λ p. (end, p)) (at_end es)
@@ -59,7 +59,7 @@ abbrev pub range_from : ℤ → ℤ → Range
 range_from l r = record { left = l; right = r }
 
 -- at a token, where `rest` says what any entries come to behind it
-abbrev pub step : Lexeme → ((es : List Entry) → Option (Parts es)) → (es : List Entry) → Option (Parts es)
+abbrev pub step : Lexeme → ((es : List Pending) → Option (Parts es)) → (es : List Pending) → Option (Parts es)
 step t rest [] = None
 step (Number n) rest (query ∷ es) = option_map (λ p. ((t.number (pos n), p.0), p.1)) (rest (more_query ∷ es))
 step Minus rest (query ∷ es) = option_map (λ p. ((t.number (neg_ℤ (pos p.0)), p.1.0), p.1.1)) (rest (number ∷ more_query ∷ es))
@@ -95,7 +95,7 @@ step Comma rest (comma_sign ∷ es) = rest es
 step t rest (_ ∷ es) = None
 
 -- what entries come to on tokens, which they take all; None where they stick
-abbrev pub read : List Lexeme → (es : List Entry) → Option (Parts es)
+abbrev pub read : List Lexeme → (es : List Pending) → Option (Parts es)
 read [] es = at_end es
 read (t ∷ ts) es = step t (read ts) es
 

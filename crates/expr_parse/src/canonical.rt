@@ -1,5 +1,3 @@
-// The text that a query is printed as.
-
 ghost use Rattle.std.specs.Prelude.{◌≡◌, ◌≤◌, ◌++◌, IfOk, Ok, OnOk, length};
 ghost use Rattle.std.specs.Fmt.{signed_decimal};
 ghost use Rattle.std.specs.Option.{option_map};
@@ -47,18 +45,14 @@ impl Level {
 fn put_bytes(into: &mut Vec<u8>, bytes: &[u8]) -> Result<(), Memory>
     ensures { OnOk result (into.new.items ≡ into.old.items ++ bytes.now) }
 {
-    if into.extend_from_slice(bytes).is_err() {
-        return Err(Memory);
-    }
+    into.extend_from_slice(bytes)?;
     Ok(())
 }
 
 fn put(into: &mut Vec<u8>, text: &str) -> Result<(), Memory>
     ensures { OnOk result (into.new.items ≡ into.old.items ++ text.now) }
 {
-    if into.extend_from_slice(text.as_bytes()).is_err() {
-        return Err(Memory);
-    }
+    put_bytes(into, text.as_bytes())?;
     Ok(())
 }
 

@@ -1,10 +1,14 @@
-// Why a text has no query.
+ghost use Rattle.std.specs.Prelude.{◌≡◌};
+ghost use Rattle.expr_parse.specs.declared.error.ParseErr.TheVariants.{Memory};
+
+use std::alloc::AllocFailed;
 
 /// Why a text has no query.
 #[derive(Clone, Copy, Debug, PartialEq, Eq)]
 pub enum ParseErr {
     /// The byte at this place begins no token, or a word of more than 32 bytes or a number above 2^127-1; or the tokens
-    /// before it begin a query, and the one at it can't follow. Where more tokens had to follow it is the text's length.
+    /// before it begin a query, and the one at it can't follow. Where more tokens had to follow it is the text's
+    /// length.
     At(u32),
     /// The text has more than 4096 bytes.
     TooLong,
@@ -15,4 +19,12 @@ pub enum ParseErr {
     /// A sum has more than 32 names, each time counted.
     TooManyNames,
     Memory,
+}
+
+impl<T: Drop> From<AllocFailed<T>> for ParseErr {
+    ghost from_gives = { λ _ e. e ≡ Memory };
+
+    fn from(_e: AllocFailed<T>) -> ParseErr {
+        ParseErr::Memory
+    }
 }

@@ -1,5 +1,3 @@
-// What a token says.
-
 use crate::magnitude::Magnitude;
 use expr::Name;
 

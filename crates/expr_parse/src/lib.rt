@@ -21,6 +21,7 @@
 
 mod canonical;
 mod error;
+mod laws;
 mod lexeme;
 mod limits;
 mod magnitude;
@@ -33,6 +34,7 @@ pub use canonical::{
     canonical_is_parsed, canonical_is_shortest, canonical_is_text, parsed_is_text, print,
 };
 pub use error::ParseErr;
+pub use laws::{parsed_is_parser, parses_alone, parses_without_memory};
 pub use text::{parse, tokens};
 pub use token::{Kind, Token};
 

@@ -1,6 +1,4 @@
-// The limits of a query.
-
-ghost use Rattle.std.specs.Prelude.{◌≡◌, ◌≤◌, ◌<◌, true, false, IfErr, IfOk, List, Err, Ok, min, length};
+ghost use Rattle.std.specs.Prelude.{◌≡◌, ◌+◌, ◌≤◌, ◌<◌, true, false, IfErr, IfOk, List, Err, Ok, min, length};
 ghost use Rattle.semantics.specs.Limits.{most_names_in, query_depth, series_depth, sums_in};
 ghost use Rattle.semantics.specs.Measures.{names_in};
 ghost use Rattle.semantics.specs.Most.{most_depth, most_names, most_sums};
@@ -12,6 +10,12 @@ use crate::error::ParseErr;
 use crate::lexeme::Lexeme;
 use crate::series::next;
 use expr::{Query, Series};
+
+const MOST_DEPTH: u32 = 64;
+
+const MOST_SUMS: u32 = 16;
+
+const MOST_NAMES: u32 = 32;
 
 /// Whether a series is at most so deep. It goes no deeper than that to see it.
 fn is_series_within(t: &Series, most: u32) -> bool
@@ -45,43 +49,43 @@ fn is_within(q: &Query, most: u32) -> bool
     }
 }
 
-/// How many sums a query has, or 17 where it has more.
+/// How many sums a query has, or one above the most where it has more.
 fn sums_in(q: &Query) -> u32
-    ensures { result ≡ min (sums_in (query_term_of q.now)) 17 }
+    ensures { result ≡ min (sums_in (query_term_of q.now)) (most_sums + 1) }
 {
     match q {
         Query::Number(_) => 0,
         Query::Sum(_, _) => 1,
         Query::Var(_, _) | Query::Cov(_, _, _) => 3,
         Query::Add(a, b) | Query::Sub(a, b) | Query::Mul(a, b) => {
-            (sums_in(a) + sums_in(b)).min(17)
+            (sums_in(a) + sums_in(b)).min(MOST_SUMS + 1)
         }
     }
 }
 
-/// How many names a series has, or 33 where it has more.
+/// How many names a series has, or one above the most where it has more.
 fn names_in(t: &Series) -> u32
-    ensures { result ≡ min (names_in (term_of t.now)) 33 }
+    ensures { result ≡ min (names_in (term_of t.now)) (most_names + 1) }
 {
     match t {
         Series::Base(_) => 1,
         Series::Const { .. } | Series::Bare(_) => 0,
         Series::Plus(u, v) | Series::Minus(u, v) | Series::Times(u, v) => {
-            (names_in(u) + names_in(v)).min(33)
+            (names_in(u) + names_in(v)).min(MOST_NAMES + 1)
         }
         Series::Shift(u, _) => names_in(u),
     }
 }
 
-/// The most names that a sum has, or 33 where it has more.
+/// The most names that a sum has, or one above the most where it has more.
 fn most_names_in(q: &Query) -> u32
-    ensures { result ≡ min (most_names_in (query_term_of q.now)) 33 }
+    ensures { result ≡ min (most_names_in (query_term_of q.now)) (most_names + 1) }
 {
     match q {
         Query::Number(_) => 0,
         Query::Sum(t, _) => names_in(t),
-        Query::Var(t, _) => (2 * names_in(t)).min(33),
-        Query::Cov(t, u, _) => (names_in(t) + names_in(u)).min(33),
+        Query::Var(t, _) => (2 * names_in(t)).min(MOST_NAMES + 1),
+        Query::Cov(t, u, _) => (names_in(t) + names_in(u)).min(MOST_NAMES + 1),
         Query::Add(a, b) | Query::Sub(a, b) | Query::Mul(a, b) => {
             most_names_in(a).max(most_names_in(b))
         }
@@ -97,13 +101,13 @@ pub(crate) fn limited(q: Query) -> Result<Query, ParseErr>
     ensures names { IfOk result (λ r. most_names_in (query_term_of q) ≤ most_names) }
     ensures refused { IfErr result (λ e. limited (query_term_of q) ≡ Err e) }
 {
-    if !is_within(&q, 64) {
+    if !is_within(&q, MOST_DEPTH) {
         return Err(ParseErr::TooDeep);
     }
-    if sums_in(&q) > 16 {
+    if sums_in(&q) > MOST_SUMS {
         return Err(ParseErr::TooManySums);
     }
-    if most_names_in(&q) > 32 {
+    if most_names_in(&q) > MOST_NAMES {
         return Err(ParseErr::TooManyNames);
     }
     Ok(q)
@@ -120,7 +124,7 @@ pub(crate) fn is_nested(ts: &[Lexeme]) -> bool
         match first {
             Lexeme::Open => {
                 opened += 1;
-                if opened.saturating_sub(closed) > 64 {
+                if opened.saturating_sub(closed) > MOST_DEPTH as usize {
                     return true;
                 }
             }

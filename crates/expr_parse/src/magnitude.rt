@@ -1,5 +1,3 @@
-// Magnitudes of numbers in text.
-
 ghost use Rattle.std.specs.Prelude.{◌≡◌, ◌≤◌, pos, neg_ℤ};
 ghost use Rattle.semantics.specs.Most.{most_number};
 

@@ -1,5 +1,3 @@
-// The grammar of queries.
-
 ghost use Rattle.std.specs.Prelude.{◌≡◌, ◌<◌, false, List, [], ◌∷◌, length, IfOk, IfErr};
 ghost use Rattle.semantics.specs.Term.{add, mul, sub};
 ghost use Rattle.expr.specs.Terms.{query_term_of};
@@ -8,7 +6,7 @@ ghost use Rattle.expr_parse.specs.Pending.{close_sign, comma_sign, continues, en
 ghost use Rattle.expr_parse.specs.Stuck.{IsStuck};
 
 use crate::lexeme::Lexeme;
-use crate::series::{Stop, close, comma, next, open, read_range, read_series, read_whole};
+use crate::series::{Stuck, close, comma, next, open, read_range, read_series, read_whole};
 use expr::Query;
 use std::alloc::Global;
 
@@ -23,7 +21,7 @@ fn has_comma(ts: &[Lexeme]) -> bool
 }
 
 /// What is behind the word `sum`.
-fn read_sum<'a>(alloc: Global, ts: &'a [Lexeme]) -> Result<(Query, &'a [Lexeme]), Stop>
+fn read_sum<'a>(alloc: Global, ts: &'a [Lexeme]) -> Result<(Query, &'a [Lexeme]), Stuck>
     ensures found { IfOk result (λ r. IsFactor (Lexeme.Sum ∷ ts.now) r.1.now (query_term_of r.0)) }
     ensures shorter { IfOk result (λ r. length r.1.now < length ts.now) }
     ensures stuck { IfErr result (λ e. IsStuck (open_sign ∷ series ∷ ends ∷ []) ts.now e) }
@@ -39,7 +37,7 @@ fn read_sum<'a>(alloc: Global, ts: &'a [Lexeme]) -> Result<(Query, &'a [Lexeme])
 }
 
 /// What is behind the word `varnum`.
-fn read_variance<'a>(alloc: Global, ts: &'a [Lexeme]) -> Result<(Query, &'a [Lexeme]), Stop>
+fn read_variance<'a>(alloc: Global, ts: &'a [Lexeme]) -> Result<(Query, &'a [Lexeme]), Stuck>
     ensures found { IfOk result (λ r. IsFactor (Lexeme.VarNum ∷ ts.now) r.1.now (query_term_of r.0)) }
     ensures shorter { IfOk result (λ r. length r.1.now < length ts.now) }
     ensures stuck { IfErr result (λ e. IsStuck (open_sign ∷ series ∷ comma_sign ∷ place ∷ comma_sign ∷ place ∷ close_sign ∷ []) ts.now e) }
@@ -51,7 +49,7 @@ fn read_variance<'a>(alloc: Global, ts: &'a [Lexeme]) -> Result<(Query, &'a [Lex
 }
 
 /// What is behind the word `covnum`.
-fn read_covariance<'a>(alloc: Global, ts: &'a [Lexeme]) -> Result<(Query, &'a [Lexeme]), Stop>
+fn read_covariance<'a>(alloc: Global, ts: &'a [Lexeme]) -> Result<(Query, &'a [Lexeme]), Stuck>
     ensures found { IfOk result (λ r. IsFactor (Lexeme.CovNum ∷ ts.now) r.1.now (query_term_of r.0)) }
     ensures shorter { IfOk result (λ r. length r.1.now < length ts.now) }
     ensures stuck { IfErr result (λ e. IsStuck (open_sign ∷ series ∷ comma_sign ∷ series ∷ comma_sign ∷ place ∷ comma_sign ∷ place ∷ close_sign ∷ []) ts.now e) }
@@ -64,46 +62,39 @@ fn read_covariance<'a>(alloc: Global, ts: &'a [Lexeme]) -> Result<(Query, &'a [L
     Ok((Query::Cov(t, u, b), rest))
 }
 
-fn boxed(alloc: Global, q: Query) -> Result<Box<Query>, Stop>
-    ensures value { IfOk result (λ b. query_term_of b.value ≡ query_term_of q) }
-    ensures memory { IfErr result (λ e. e ≡ Stop.Memory) }
-{
-    match Box::new(alloc, q) {
-        Ok(b) => Ok(b),
-        Err(_) => Err(Stop::Memory),
-    }
-}
-
-fn sum_of(alloc: Global, p: Query, q: Query) -> Result<Query, Stop>
+fn sum_of(alloc: Global, p: Query, q: Query) -> Result<Query, Stuck>
     ensures value { IfOk result (λ r. query_term_of r ≡ add (query_term_of p) (query_term_of q)) }
-    ensures memory { IfErr result (λ e. e ≡ Stop.Memory) }
+    ensures memory { IfErr result (λ e. e ≡ Stuck.Memory) }
 {
-    let p = boxed(alloc, p)?;
-    let q = boxed(alloc, q)?;
+    let p = Box::new(alloc, p)?;
+    let q = Box::new(alloc, q)?;
     Ok(Query::Add(p, q))
 }
 
-fn difference_of(alloc: Global, p: Query, q: Query) -> Result<Query, Stop>
+fn difference_of(alloc: Global, p: Query, q: Query) -> Result<Query, Stuck>
     ensures value { IfOk result (λ r. query_term_of r ≡ sub (query_term_of p) (query_term_of q)) }
-    ensures memory { IfErr result (λ e. e ≡ Stop.Memory) }
+    ensures memory { IfErr result (λ e. e ≡ Stuck.Memory) }
 {
-    let p = boxed(alloc, p)?;
-    let q = boxed(alloc, q)?;
+    let p = Box::new(alloc, p)?;
+    let q = Box::new(alloc, q)?;
     Ok(Query::Sub(p, q))
 }
 
-fn product_of(alloc: Global, p: Query, q: Query) -> Result<Query, Stop>
+fn product_of(alloc: Global, p: Query, q: Query) -> Result<Query, Stuck>
     ensures value { IfOk result (λ r. query_term_of r ≡ mul (query_term_of p) (query_term_of q)) }
-    ensures memory { IfErr result (λ e. e ≡ Stop.Memory) }
+    ensures memory { IfErr result (λ e. e ≡ Stuck.Memory) }
 {
-    let p = boxed(alloc, p)?;
-    let q = boxed(alloc, q)?;
+    let p = Box::new(alloc, p)?;
+    let q = Box::new(alloc, q)?;
     Ok(Query::Mul(p, q))
 }
 
 /// A query, as far as it goes.
 #[cycle(query)]
-pub(crate) fn read_query<'a>(alloc: Global, ts: &'a [Lexeme]) -> Result<(Query, &'a [Lexeme]), Stop>
+pub(crate) fn read_query<'a>(
+    alloc: Global,
+    ts: &'a [Lexeme],
+) -> Result<(Query, &'a [Lexeme]), Stuck>
     ensures found { IfOk result (λ r. IsQuery ts.now r.1.now (query_term_of r.0)) }
     ensures ended { IfOk result (λ r. continues r.1.now ≡ false) }
     ensures shorter { IfOk result (λ r. length r.1.now < length ts.now) }
@@ -128,7 +119,7 @@ pub(crate) fn read_query<'a>(alloc: Global, ts: &'a [Lexeme]) -> Result<(Query, 
 }
 
 #[cycle(query)]
-fn read_term<'a>(alloc: Global, ts: &'a [Lexeme]) -> Result<(Query, &'a [Lexeme]), Stop>
+fn read_term<'a>(alloc: Global, ts: &'a [Lexeme]) -> Result<(Query, &'a [Lexeme]), Stuck>
     ensures found { IfOk result (λ r. IsProduct ts.now r.1.now (query_term_of r.0)) }
     ensures ended { IfOk result (λ r. multiplies r.1.now ≡ false) }
     ensures shorter { IfOk result (λ r. length r.1.now < length ts.now) }
@@ -148,7 +139,7 @@ fn read_term<'a>(alloc: Global, ts: &'a [Lexeme]) -> Result<(Query, &'a [Lexeme]
 }
 
 #[cycle(query)]
-fn read_operand<'a>(alloc: Global, ts: &'a [Lexeme]) -> Result<(Query, &'a [Lexeme]), Stop>
+fn read_operand<'a>(alloc: Global, ts: &'a [Lexeme]) -> Result<(Query, &'a [Lexeme]), Stuck>
     ensures found { IfOk result (λ r. IsFactor ts.now r.1.now (query_term_of r.0)) }
     ensures shorter { IfOk result (λ r. length r.1.now < length ts.now) }
     ensures stuck { IfErr result (λ e. IsStuck (query ∷ []) ts.now e) }
@@ -176,6 +167,6 @@ fn read_operand<'a>(alloc: Global, ts: &'a [Lexeme]) -> Result<(Query, &'a [Lexe
             let (v, rest) = read_whole(ts)?;
             Ok((Query::Number(v), rest))
         }
-        _ => Err(Stop::Stuck(ts.len())),
+        _ => Err(Stuck::At(ts.len())),
     }
 }

@@ -1,5 +1,3 @@
-// The grammar of series.
-
 ghost use Rattle.std.specs.Prelude.{◌≡◌, ℕ, ◌<◌, ◌≤◌, false, List, [], ◌∷◌, length, IfOk, IfErr, MatchOption, unsigned_abs};
 ghost use Rattle.semantics.specs.Most.{most_shift};
 ghost use Rattle.semantics.specs.Term.{plus, minus, times, shift};
@@ -7,16 +5,25 @@ ghost use Rattle.expr.specs.Terms.{range_of, term_of};
 ghost use Rattle.expr_parse.specs.SeriesGrammar.{IsFactor, IsPlace, IsProduct, IsRange, IsSeries, IsWhole};
 ghost use Rattle.expr_parse.specs.Pending.{close_sign, comma_sign, continues, multiplies, open_sign, place, series, whole};
 ghost use Rattle.expr_parse.specs.Stuck.{IsStuck};
+ghost use Rattle.expr_parse.specs.declared.series.Stuck.TheVariants.{Memory};
 
 use crate::lexeme::Lexeme;
 use expr::{Bounds, Series};
-use std::alloc::Global;
+use std::alloc::{AllocFailed, Global};
 
-/// Why reading stopped: at a token, with so many tokens left, or for want of memory.
+/// Why reading stops: it sticks with so many tokens left, or for want of memory.
 #[derive(Clone, Copy)]
-pub(crate) enum Stop {
-    Stuck(usize),
+pub(crate) enum Stuck {
+    At(usize),
     Memory,
+}
+
+impl<T: Drop> From<AllocFailed<T>> for Stuck {
+    ghost from_gives = { λ _ e. e ≡ Memory };
+
+    fn from(_e: AllocFailed<T>) -> Stuck {
+        Stuck::Memory
+    }
 }
 
 /// The next token, and those behind it.
@@ -31,7 +38,7 @@ pub(crate) fn next(ts: &[Lexeme]) -> Option<(&Lexeme, &[Lexeme])>
 
 /// A number, or the negative of one.
 #[tactic(auto, using(crate::proofs::Found::positive_at, crate::proofs::Found::negative_at))]
-pub(crate) fn read_whole(ts: &[Lexeme]) -> Result<(i128, &[Lexeme]), Stop>
+pub(crate) fn read_whole(ts: &[Lexeme]) -> Result<(i128, &[Lexeme]), Stuck>
     ensures found { IfOk result (λ r. IsWhole ts.now r.1.now r.0) }
     ensures shorter { IfOk result (λ r. length r.1.now < length ts.now) }
     ensures stuck { IfErr result (λ e. IsStuck (whole ∷ []) ts.now e) }
@@ -40,12 +47,13 @@ pub(crate) fn read_whole(ts: &[Lexeme]) -> Result<(i128, &[Lexeme]), Stop>
         Some((Lexeme::Number(n), rest)) => Ok((n.positive(), rest)),
         Some((Lexeme::Minus, rest)) => match next(rest) {
             Some((Lexeme::Number(n), more)) => Ok((n.negative(), more)),
-            _ => Err(Stop::Stuck(rest.len())),
+            _ => Err(Stuck::At(rest.len())),
         },
-        _ => Err(Stop::Stuck(ts.len())),
+        _ => Err(Stuck::At(ts.len())),
     }
 }
 
+/// The greatest magnitude of a place.
 const MOST: u64 = 1 << 40;
 
 /// The place that a number is, or none where it is too far.
@@ -60,7 +68,7 @@ fn narrow(v: i128) -> Option<i64>
 }
 
 /// A whole number of magnitude at most 2^40.
-pub(crate) fn read_place(ts: &[Lexeme]) -> Result<(i64, &[Lexeme]), Stop>
+pub(crate) fn read_place(ts: &[Lexeme]) -> Result<(i64, &[Lexeme]), Stuck>
     ensures found { IfOk result (λ r. IsPlace ts.now r.1.now r.0) }
     ensures shorter { IfOk result (λ r. length r.1.now < length ts.now) }
     ensures stuck { IfErr result (λ e. IsStuck (place ∷ []) ts.now e) }
@@ -68,51 +76,51 @@ pub(crate) fn read_place(ts: &[Lexeme]) -> Result<(i64, &[Lexeme]), Stop>
     match next(ts) {
         Some((Lexeme::Number(n), rest)) => match narrow(n.positive()) {
             Some(k) => Ok((k, rest)),
-            None => Err(Stop::Stuck(ts.len())),
+            None => Err(Stuck::At(ts.len())),
         },
         Some((Lexeme::Minus, rest)) => match next(rest) {
             Some((Lexeme::Number(n), more)) => match narrow(n.negative()) {
                 Some(k) => Ok((k, more)),
-                None => Err(Stop::Stuck(rest.len())),
+                None => Err(Stuck::At(rest.len())),
             },
-            _ => Err(Stop::Stuck(rest.len())),
+            _ => Err(Stuck::At(rest.len())),
         },
-        _ => Err(Stop::Stuck(ts.len())),
+        _ => Err(Stuck::At(ts.len())),
     }
 }
 
-pub(crate) fn open(ts: &[Lexeme]) -> Result<&[Lexeme], Stop>
+pub(crate) fn open(ts: &[Lexeme]) -> Result<&[Lexeme], Stuck>
     ensures found { IfOk result (λ r. ts.now ≡ Lexeme.Open ∷ r.now) }
     ensures stuck { IfErr result (λ e. IsStuck (open_sign ∷ []) ts.now e) }
 {
     match next(ts) {
         Some((Lexeme::Open, rest)) => Ok(rest),
-        _ => Err(Stop::Stuck(ts.len())),
+        _ => Err(Stuck::At(ts.len())),
     }
 }
 
-pub(crate) fn close(ts: &[Lexeme]) -> Result<&[Lexeme], Stop>
+pub(crate) fn close(ts: &[Lexeme]) -> Result<&[Lexeme], Stuck>
     ensures found { IfOk result (λ r. ts.now ≡ Lexeme.Close ∷ r.now) }
     ensures stuck { IfErr result (λ e. IsStuck (close_sign ∷ []) ts.now e) }
 {
     match next(ts) {
         Some((Lexeme::Close, rest)) => Ok(rest),
-        _ => Err(Stop::Stuck(ts.len())),
+        _ => Err(Stuck::At(ts.len())),
     }
 }
 
-pub(crate) fn comma(ts: &[Lexeme]) -> Result<&[Lexeme], Stop>
+pub(crate) fn comma(ts: &[Lexeme]) -> Result<&[Lexeme], Stuck>
     ensures found { IfOk result (λ r. ts.now ≡ Lexeme.Comma ∷ r.now) }
     ensures stuck { IfErr result (λ e. IsStuck (comma_sign ∷ []) ts.now e) }
 {
     match next(ts) {
         Some((Lexeme::Comma, rest)) => Ok(rest),
-        _ => Err(Stop::Stuck(ts.len())),
+        _ => Err(Stuck::At(ts.len())),
     }
 }
 
 /// Two places behind commas, and the closing sign.
-pub(crate) fn read_range(ts: &[Lexeme]) -> Result<(Bounds, &[Lexeme]), Stop>
+pub(crate) fn read_range(ts: &[Lexeme]) -> Result<(Bounds, &[Lexeme]), Stuck>
     ensures found { IfOk result (λ r. IsRange ts.now r.1.now (range_of r.0)) }
     ensures shorter { IfOk result (λ r. length r.1.now < length ts.now) }
     ensures stuck { IfErr result (λ e. IsStuck (comma_sign ∷ place ∷ comma_sign ∷ place ∷ close_sign ∷ []) ts.now e) }
@@ -126,7 +134,7 @@ pub(crate) fn read_range(ts: &[Lexeme]) -> Result<(Bounds, &[Lexeme]), Stop>
 }
 
 /// What is behind the word `const`.
-fn read_constant(ts: &[Lexeme]) -> Result<(Series, &[Lexeme]), Stop>
+fn read_constant(ts: &[Lexeme]) -> Result<(Series, &[Lexeme]), Stuck>
     ensures found { IfOk result (λ r. IsFactor (Lexeme.Const ∷ ts.now) r.1.now (term_of r.0)) }
     ensures shorter { IfOk result (λ r. length r.1.now < length ts.now) }
     ensures stuck { IfErr result (λ e. IsStuck (open_sign ∷ whole ∷ comma_sign ∷ place ∷ comma_sign ∷ place ∷ close_sign ∷ []) ts.now e) }
@@ -137,48 +145,38 @@ fn read_constant(ts: &[Lexeme]) -> Result<(Series, &[Lexeme]), Stop>
     Ok((Series::Const { v, a: b.l, b: b.r }, rest))
 }
 
-fn boxed(alloc: Global, t: Series) -> Result<Box<Series>, Stop>
-    ensures value { IfOk result (λ b. term_of b.value ≡ term_of t) }
-    ensures memory { IfErr result (λ e. e ≡ Stop.Memory) }
-{
-    match Box::new(alloc, t) {
-        Ok(b) => Ok(b),
-        Err(_) => Err(Stop::Memory),
-    }
-}
-
-fn sum_of(alloc: Global, u: Series, v: Series) -> Result<Series, Stop>
+fn sum_of(alloc: Global, u: Series, v: Series) -> Result<Series, Stuck>
     ensures value { IfOk result (λ t. term_of t ≡ plus (term_of u) (term_of v)) }
-    ensures memory { IfErr result (λ e. e ≡ Stop.Memory) }
+    ensures memory { IfErr result (λ e. e ≡ Stuck.Memory) }
 {
-    let u = boxed(alloc, u)?;
-    let v = boxed(alloc, v)?;
+    let u = Box::new(alloc, u)?;
+    let v = Box::new(alloc, v)?;
     Ok(Series::Plus(u, v))
 }
 
-fn difference_of(alloc: Global, u: Series, v: Series) -> Result<Series, Stop>
+fn difference_of(alloc: Global, u: Series, v: Series) -> Result<Series, Stuck>
     ensures value { IfOk result (λ t. term_of t ≡ minus (term_of u) (term_of v)) }
-    ensures memory { IfErr result (λ e. e ≡ Stop.Memory) }
+    ensures memory { IfErr result (λ e. e ≡ Stuck.Memory) }
 {
-    let u = boxed(alloc, u)?;
-    let v = boxed(alloc, v)?;
+    let u = Box::new(alloc, u)?;
+    let v = Box::new(alloc, v)?;
     Ok(Series::Minus(u, v))
 }
 
-fn product_of(alloc: Global, u: Series, v: Series) -> Result<Series, Stop>
+fn product_of(alloc: Global, u: Series, v: Series) -> Result<Series, Stuck>
     ensures value { IfOk result (λ t. term_of t ≡ times (term_of u) (term_of v)) }
-    ensures memory { IfErr result (λ e. e ≡ Stop.Memory) }
+    ensures memory { IfErr result (λ e. e ≡ Stuck.Memory) }
 {
-    let u = boxed(alloc, u)?;
-    let v = boxed(alloc, v)?;
+    let u = Box::new(alloc, u)?;
+    let v = Box::new(alloc, v)?;
     Ok(Series::Times(u, v))
 }
 
-fn shift_of(alloc: Global, u: Series, k: i64) -> Result<Series, Stop>
+fn shift_of(alloc: Global, u: Series, k: i64) -> Result<Series, Stuck>
     ensures value { IfOk result (λ t. term_of t ≡ shift (term_of u) k) }
-    ensures memory { IfErr result (λ e. e ≡ Stop.Memory) }
+    ensures memory { IfErr result (λ e. e ≡ Stuck.Memory) }
 {
-    let u = boxed(alloc, u)?;
+    let u = Box::new(alloc, u)?;
     Ok(Series::Shift(u, k))
 }
 
@@ -187,7 +185,7 @@ fn shift_of(alloc: Global, u: Series, k: i64) -> Result<Series, Stop>
 pub(crate) fn read_series<'a>(
     alloc: Global,
     ts: &'a [Lexeme],
-) -> Result<(Series, &'a [Lexeme]), Stop>
+) -> Result<(Series, &'a [Lexeme]), Stuck>
     ensures found { IfOk result (λ r. IsSeries ts.now r.1.now (term_of r.0)) }
     ensures ended { IfOk result (λ r. continues r.1.now ≡ false) }
     ensures shorter { IfOk result (λ r. length r.1.now < length ts.now) }
@@ -212,7 +210,7 @@ pub(crate) fn read_series<'a>(
 }
 
 #[cycle(series)]
-fn read_product<'a>(alloc: Global, ts: &'a [Lexeme]) -> Result<(Series, &'a [Lexeme]), Stop>
+fn read_product<'a>(alloc: Global, ts: &'a [Lexeme]) -> Result<(Series, &'a [Lexeme]), Stuck>
     ensures found { IfOk result (λ r. IsProduct ts.now r.1.now (term_of r.0)) }
     ensures ended { IfOk result (λ r. multiplies r.1.now ≡ false) }
     ensures shorter { IfOk result (λ r. length r.1.now < length ts.now) }
@@ -232,7 +230,7 @@ fn read_product<'a>(alloc: Global, ts: &'a [Lexeme]) -> Result<(Series, &'a [Lex
 }
 
 #[cycle(series)]
-fn read_factor<'a>(alloc: Global, ts: &'a [Lexeme]) -> Result<(Series, &'a [Lexeme]), Stop>
+fn read_factor<'a>(alloc: Global, ts: &'a [Lexeme]) -> Result<(Series, &'a [Lexeme]), Stuck>
     ensures found { IfOk result (λ r. IsFactor ts.now r.1.now (term_of r.0)) }
     ensures shorter { IfOk result (λ r. length r.1.now < length ts.now) }
     ensures stuck { IfErr result (λ e. IsStuck (series ∷ []) ts.now e) }
@@ -257,13 +255,13 @@ fn read_factor<'a>(alloc: Global, ts: &'a [Lexeme]) -> Result<(Series, &'a [Lexe
             let (v, rest) = read_whole(ts)?;
             Ok((Series::Bare(v), rest))
         }
-        _ => Err(Stop::Stuck(ts.len())),
+        _ => Err(Stuck::At(ts.len())),
     }
 }
 
 /// What is behind the word `shift`.
 #[cycle(series)]
-fn read_shift<'a>(alloc: Global, ts: &'a [Lexeme]) -> Result<(Series, &'a [Lexeme]), Stop>
+fn read_shift<'a>(alloc: Global, ts: &'a [Lexeme]) -> Result<(Series, &'a [Lexeme]), Stuck>
     ensures found { IfOk result (λ r. IsFactor (Lexeme.Shift ∷ ts.now) r.1.now (term_of r.0)) }
     ensures shorter { IfOk result (λ r. length r.1.now < length ts.now) }
     ensures stuck { IfErr result (λ e. IsStuck (open_sign ∷ series ∷ comma_sign ∷ place ∷ close_sign ∷ []) ts.now e) }

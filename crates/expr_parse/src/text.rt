@@ -1,5 +1,3 @@
-// The query of a text.
-
 ghost use Rattle.std.specs.Prelude.{◌≡◌, ◌↔◌, ◌≤◌, ◌⊎◌, ℕ, Err, IfErr, IfOk, List, MatchOption, None, Ok, Some, [], ◌∷◌, length, map};
 ghost use Rattle.semantics.specs.Limits.{nodes_in, IsWithinLimits};
 ghost use Rattle.semantics.specs.Most.{most_text};
@@ -19,7 +17,7 @@ use crate::error::ParseErr;
 use crate::lexeme::Lexeme;
 use crate::limits::{is_nested, limited};
 use crate::query::read_query;
-use crate::series::{Stop, next};
+use crate::series::{Stuck, next};
 use crate::token::{Scanned, Token, scan};
 use expr::Query;
 use std::alloc::Global;
@@ -28,7 +26,7 @@ use std::alloc::Global;
 const MOST_TEXT: usize = 4096;
 
 /// The query of all tokens.
-fn read_all(alloc: Global, ts: &[Lexeme]) -> Result<Query, Stop>
+fn read_all(alloc: Global, ts: &[Lexeme]) -> Result<Query, Stuck>
     ensures found { IfOk result (λ q. IsQuery ts.now [] (query_term_of q)) }
     ensures tree { IfOk result (λ q. tree_of ts.now ≡ Some (query_term_of q)) }
     ensures passes { IfOk result (λ q. sticks (query ∷ []) ts.now ≡ None) }
@@ -40,7 +38,7 @@ fn read_all(alloc: Global, ts: &[Lexeme]) -> Result<Query, Stop>
     let (q, rest) = read_query(alloc, ts)?;
     match next(rest) {
         None => Ok(q),
-        Some(_) => Err(Stop::Stuck(rest.len())),
+        Some(_) => Err(Stuck::At(rest.len())),
     }
 }
 
@@ -94,8 +92,8 @@ fn by_lexemes(
             let q = limited(q)?;
             Ok(q)
         }
-        Err(Stop::Stuck(left)) => Err(ParseErr::At(place_of(text, tokens, left))),
-        Err(Stop::Memory) => Err(ParseErr::Memory),
+        Err(Stuck::At(left)) => Err(ParseErr::At(place_of(text, tokens, left))),
+        Err(Stuck::Memory) => Err(ParseErr::Memory),
     }
 }
 

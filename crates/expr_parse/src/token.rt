@@ -1,5 +1,3 @@
-// The tokens of a text.
-
 ghost use Rattle.std.specs.Prelude.{◌≡◌, ◌+◌, ◌<◌, ◌≤◌, ◌^◌, ℕ, ◌⊎◌, [], ◌∷◌, ◌++◌, Err, IfOk, IfErr, IfSome, MatchOption, Ok, OnOk, length, map, take};
 ghost use Rattle.std.specs.Char.{is_ascii_digit};
 ghost use Rattle.std.specs.List.{prefix_len};
@@ -15,6 +13,9 @@ use crate::magnitude::Magnitude;
 use expr::{Name, is_word_byte};
 use num_text::{is_blank, read_i128};
 use std::alloc::Global;
+
+/// The most bytes of a word.
+const MOST_WORD: usize = 32;
 
 #[derive(Clone, Copy, Debug, PartialEq, Eq)]
 pub enum Kind {
@@ -62,7 +63,11 @@ fn front(text: &[u8]) -> Option<(Kind, usize)>
     let first = *text.first()?;
     if first.is_ascii_alphabetic() {
         let n = word_length(text);
-        return if n <= 32 { Some((Kind::Word, n)) } else { None };
+        return if n <= MOST_WORD {
+            Some((Kind::Word, n))
+        } else {
+            None
+        };
     }
     if first.is_ascii_digit() {
         let n = digits_length(text);
@@ -168,20 +173,16 @@ fn put_token(out: &mut Vec<Token>, token: Token) -> Result<(), ParseErr>
     ensures ok { OnOk result (out.new.items ≡ out.old.items ++ token ∷ []) }
     ensures memory { IfErr result (λ e. e ≡ ParseErr.Memory) }
 {
-    match out.push(token) {
-        Ok(()) => Ok(()),
-        Err(_) => Err(ParseErr::Memory),
-    }
+    out.push(token)?;
+    Ok(())
 }
 
 fn put_lexeme(said: &mut Vec<Lexeme>, lexeme: Lexeme) -> Result<(), ParseErr>
     ensures ok { OnOk result (said.new.items ≡ said.old.items ++ lexeme ∷ []) }
     ensures memory { IfErr result (λ e. e ≡ ParseErr.Memory) }
 {
-    match said.push(lexeme) {
-        Ok(()) => Ok(()),
-        Err(_) => Err(ParseErr::Memory),
-    }
+    said.push(lexeme)?;
+    Ok(())
 }
 
 /// The tokens of a text, and what each says.

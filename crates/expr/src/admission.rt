@@ -17,15 +17,16 @@ use crate::measures::{MOST, MOST_RANK, domain_bounds, rank};
 use crate::name::Name;
 use crate::size::{extent, size_over};
 
-/// Why a query is refused. Sums are numbered from 1, from left to right. Nodes are numbers, sums and operators, numbered
-/// from 1, each behind its parts.
+/// Why a query is refused. Sums are numbered from 1, from left to right. Nodes are numbers, sums and operators,
+/// numbered from 1, each behind its parts.
 #[derive(Clone, Copy, Debug, PartialEq, Eq)]
 pub enum AdmitErr {
     /// The first name that no fact is of.
     Unknown(Name),
     /// The first sum whose rank is above 2.
     Rank(u32),
-    /// The first sum whose range isn't inside of its domain, and the ends of that; an empty domain is told as its start twice.
+    /// The first sum whose range isn't inside of its domain, and the ends of that; an empty domain is told as its start
+    /// twice.
     Domain { sum: u32, lo: i64, hi: i64 },
     /// The first node that may pass 2^125.
     Range(u32),

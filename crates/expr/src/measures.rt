@@ -87,13 +87,14 @@ pub(crate) fn domain_bounds(t: &Series, facts: &[Fact]) -> Bounds
     }
 }
 
-/// The positions at which an expression has a value, from the first to before the second; an empty domain is answered as
-/// its start twice.
+/// The positions at which an expression has a value, from the first to before the second; an empty domain is answered
+/// as its start twice.
 pub fn domain(t: &Series, facts: &[Fact]) -> (i64, i64)
     requires depth { series_depth (term_of t.now) ≤ most_depth + 1 }
     requires near { IsNearSeries (term_of t.now) }
     ensures start { result.0 ≡ (domain_of (count_at (facts_of facts.now)) (term_of t.now)).left }
-    ensures end { result.1 ≡ (let d = domain_of (count_at (facts_of facts.now)) (term_of t.now) in int_max d.left d.right) }
+    ensures end { result.1
+        ≡ (let d = domain_of (count_at (facts_of facts.now)) (term_of t.now) in int_max d.left d.right) }
 {
     let bounds = domain_bounds(t, facts);
     (bounds.l, bounds.l.max(bounds.r))
@@ -106,7 +107,8 @@ fn within(units: u128) -> Option<u128>
 }
 
 fn constant_units(v: i128) -> Option<u128>
-    ensures { MatchOption result (range_limit < 2 * unsigned_abs v) (λ u. (u ≡ 2 * unsigned_abs v) × (u ≤ range_limit)) }
+    ensures { MatchOption result (range_limit < 2 * unsigned_abs v)
+        (λ u. (u ≡ 2 * unsigned_abs v) × (u ≤ range_limit)) }
 {
     let magnitude = within(v.unsigned_abs())?;
     within(2 * magnitude)

@@ -93,7 +93,8 @@ pub(crate) fn size_over(t: &Series, facts: &[Fact], n: u64) -> Option<Size>
     requires rank { rank_of (term_of t.now) ≤ most_rank }
     requires some { 1 ≤ n }
     ensures { let greatest = greatest_at (facts_of facts.now)
-        in MatchOption result (some_part (is_great_over greatest n) (term_of t.now) ≡ true) (IsSizeOver greatest n (term_of t.now)) }
+        in MatchOption result (some_part (is_great_over greatest n) (term_of t.now) ≡ true)
+        (IsSizeOver greatest n (term_of t.now)) }
 {
     match t {
         Series::Base(name) => bounded(1, 128 * u128::from(greatest_at(facts, name).max(1)), n),

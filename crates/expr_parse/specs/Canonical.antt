@@ -32,9 +32,15 @@ series_text level (base name) = name
 series_text level (bare v) = signed_decimal v
 series_text level (constant v a b) = codes "const(" ++ signed_decimal v ++ range_text (record { left = a; right = b })
 series_text level (shift u k) = codes "shift(" ++ series_text OfSum u ++ codes "," ++ signed_decimal k ++ codes ")"
-series_text level (plus u v) = opened (groups_sum level) ++ series_text OfSum u ++ codes "+" ++ series_text OfProduct v ++ closed (groups_sum level)
-series_text level (minus u v) = opened (groups_sum level) ++ series_text OfSum u ++ codes "-" ++ series_text OfProduct v ++ closed (groups_sum level)
-series_text level (times u v) = opened (groups_product level) ++ series_text OfProduct u ++ codes "*" ++ series_text OfFactor v ++ closed (groups_product level)
+series_text level (plus u v) =
+    opened (groups_sum level) ++ series_text OfSum u ++ codes "+" ++ series_text OfProduct v
+    ++ closed (groups_sum level)
+series_text level (minus u v) =
+    opened (groups_sum level) ++ series_text OfSum u ++ codes "-" ++ series_text OfProduct v
+    ++ closed (groups_sum level)
+series_text level (times u v) =
+    opened (groups_product level) ++ series_text OfProduct u ++ codes "*" ++ series_text OfFactor v
+    ++ closed (groups_product level)
 
 -- how a sum ends, over its range or over its whole domain
 abbrev pub ends_text : Option Range → List ℕ
@@ -45,10 +51,15 @@ abbrev pub query_text : Level → QueryTerm → List ℕ
 query_text level (number v) = signed_decimal v
 query_text level (sum t range) = codes "sum(" ++ series_text OfSum t ++ ends_text range
 query_text level (variance t range) = codes "varnum(" ++ series_text OfSum t ++ range_text range
-query_text level (covariance t u range) = codes "covnum(" ++ series_text OfSum t ++ codes "," ++ series_text OfSum u ++ range_text range
-query_text level (add p q) = opened (groups_sum level) ++ query_text OfSum p ++ codes "+" ++ query_text OfProduct q ++ closed (groups_sum level)
-query_text level (sub p q) = opened (groups_sum level) ++ query_text OfSum p ++ codes "-" ++ query_text OfProduct q ++ closed (groups_sum level)
-query_text level (mul p q) = opened (groups_product level) ++ query_text OfProduct p ++ codes "*" ++ query_text OfFactor q ++ closed (groups_product level)
+query_text level (covariance t u range) =
+    codes "covnum(" ++ series_text OfSum t ++ codes "," ++ series_text OfSum u ++ range_text range
+query_text level (add p q) =
+    opened (groups_sum level) ++ query_text OfSum p ++ codes "+" ++ query_text OfProduct q ++ closed (groups_sum level)
+query_text level (sub p q) =
+    opened (groups_sum level) ++ query_text OfSum p ++ codes "-" ++ query_text OfProduct q ++ closed (groups_sum level)
+query_text level (mul p q) =
+    opened (groups_product level) ++ query_text OfProduct p ++ codes "*" ++ query_text OfFactor q
+    ++ closed (groups_product level)
 
 abbrev pub canonical_text : QueryTerm → List ℕ
 canonical_text q = query_text OfSum q

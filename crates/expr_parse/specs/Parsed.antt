@@ -33,7 +33,8 @@ by_grammar text ts None (Some q) = limited q
 by_grammar text ts None None = Err refusal.Memory
 
 abbrev pub by_lexemes : List ℕ → List Token → List Lexeme → Result QueryTerm ParseErr
-by_lexemes text ts said = if is_nested 0 0 said then Err refusal.TooDeep else by_grammar text ts (sticks (query ∷ []) said) (tree_of said)
+by_lexemes text ts said =
+    if is_nested 0 0 said then Err refusal.TooDeep else by_grammar text ts (sticks (query ∷ []) said) (tree_of said)
 
 abbrev pub by_tokens : List ℕ → Result (List Token) ParseErr → Result QueryTerm ParseErr
 by_tokens text (Err e) = Err e

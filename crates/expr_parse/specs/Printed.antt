@@ -28,11 +28,15 @@ IsNamedQuery (mul p q) = IsNamedQuery p × IsNamedQuery q
 
 -- the grammar gives a query for its canonical text, where that is not too long
 abbrev pub CanonicalIsText : Type 0
-CanonicalIsText = (q : QueryTerm) → IsNamedQuery q → IsNearQuery q → HasSmallNumbers q → length (canonical_text q) ≤ most_text → IsTextOf (canonical_text q) q
+CanonicalIsText =
+    (q : QueryTerm) → IsNamedQuery q → IsNearQuery q → HasSmallNumbers q → length (canonical_text q) ≤ most_text
+    → IsTextOf (canonical_text q) q
 
 -- and it is parsed as that query, where the query is within its limits
 abbrev pub CanonicalIsParsed : Type 0
-CanonicalIsParsed = (q : QueryTerm) → IsNamedQuery q → IsWithinLimits q → length (canonical_text q) ≤ most_text → parsed (canonical_text q) ≡ Ok q
+CanonicalIsParsed =
+    (q : QueryTerm) → IsNamedQuery q → IsWithinLimits q → length (canonical_text q) ≤ most_text
+    → parsed (canonical_text q) ≡ Ok q
 
 -- no text of a query is shorter than its canonical text
 abbrev pub CanonicalIsShortest : Type 0

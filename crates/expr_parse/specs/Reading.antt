@@ -14,7 +14,8 @@ pub data More (T : Type 0) : Type 0 where
   minus : T → More T → More T
   times : T → More T → More T
 
--- the tree of a factor and the operators behind it, where `sum` is what is done with a product: all from the left, products first
+-- the tree of a factor and the operators behind it, where `sum` is what is done with a product: all from the left,
+-- products first
 abbrev pub query_chain : (QueryTerm → QueryTerm) → QueryTerm → More QueryTerm → QueryTerm
 query_chain s q end = s q
 query_chain s q (plus f more) = query_chain (t.add (s q)) f more
@@ -62,26 +63,43 @@ range_from l r = record { left = l; right = r }
 abbrev pub step : Lexeme → ((es : List Pending) → Option (Parts es)) → (es : List Pending) → Option (Parts es)
 step t rest [] = None
 step (Number n) rest (query ∷ es) = option_map (λ p. ((t.number (pos n), p.0), p.1)) (rest (more_query ∷ es))
-step Minus rest (query ∷ es) = option_map (λ p. ((t.number (neg_ℤ (pos p.0)), p.1.0), p.1.1)) (rest (number ∷ more_query ∷ es))
-step Open rest (query ∷ es) = option_map (λ p. ((query_tree p.0, p.1.0), p.1.1)) (rest (query ∷ close_sign ∷ more_query ∷ es))
-step Sum rest (query ∷ es) = option_map (λ p. ((t.sum (series_tree p.0) p.1.0, p.1.1.0), p.1.1.1)) (rest (open_sign ∷ series ∷ ends ∷ more_query ∷ es))
-step VarNum rest (query ∷ es) = option_map (λ p. ((t.variance (series_tree p.0) (range_from p.1.0 p.1.1.0), p.1.1.1.0), p.1.1.1.1)) (rest (open_sign ∷ series ∷ comma_sign ∷ place ∷ comma_sign ∷ place ∷ close_sign ∷ more_query ∷ es))
-step CovNum rest (query ∷ es) = option_map (λ p. ((t.covariance (series_tree p.0) (series_tree p.1.0) (range_from p.1.1.0 p.1.1.1.0), p.1.1.1.1.0), p.1.1.1.1.1)) (rest (open_sign ∷ series ∷ comma_sign ∷ series ∷ comma_sign ∷ place ∷ comma_sign ∷ place ∷ close_sign ∷ more_query ∷ es))
+step Minus rest (query ∷ es) =
+    option_map (λ p. ((t.number (neg_ℤ (pos p.0)), p.1.0), p.1.1)) (rest (number ∷ more_query ∷ es))
+step Open rest (query ∷ es) =
+    option_map (λ p. ((query_tree p.0, p.1.0), p.1.1)) (rest (query ∷ close_sign ∷ more_query ∷ es))
+step Sum rest (query ∷ es) =
+    option_map (λ p. ((t.sum (series_tree p.0) p.1.0, p.1.1.0), p.1.1.1))
+    (rest (open_sign ∷ series ∷ ends ∷ more_query ∷ es))
+step VarNum rest (query ∷ es) =
+    option_map (λ p. ((t.variance (series_tree p.0) (range_from p.1.0 p.1.1.0), p.1.1.1.0), p.1.1.1.1))
+    (rest (open_sign ∷ series ∷ comma_sign ∷ place ∷ comma_sign ∷ place ∷ close_sign ∷ more_query ∷ es))
+step CovNum rest (query ∷ es) =
+    option_map
+    (λ p. ((t.covariance (series_tree p.0) (series_tree p.1.0) (range_from p.1.1.0 p.1.1.1.0), p.1.1.1.1.0), p.1.1.1.1.1))
+    (rest (open_sign ∷ series ∷ comma_sign ∷ series ∷ comma_sign ∷ place ∷ comma_sign ∷ place ∷ close_sign
+    ∷ more_query ∷ es))
 step Plus rest (more_query ∷ es) = option_map (λ p. (plus p.0.0 p.0.1, p.1)) (rest (query ∷ es))
 step Minus rest (more_query ∷ es) = option_map (λ p. (minus p.0.0 p.0.1, p.1)) (rest (query ∷ es))
 step Times rest (more_query ∷ es) = option_map (λ p. (times p.0.0 p.0.1, p.1)) (rest (query ∷ es))
 step t rest (more_query ∷ es) = option_map (λ p. (end, p)) (step t rest es)
 step (Named n) rest (series ∷ es) = option_map (λ p. ((t.base n, p.0), p.1)) (rest (more_series ∷ es))
 step (Number n) rest (series ∷ es) = option_map (λ p. ((t.bare (pos n), p.0), p.1)) (rest (more_series ∷ es))
-step Minus rest (series ∷ es) = option_map (λ p. ((t.bare (neg_ℤ (pos p.0)), p.1.0), p.1.1)) (rest (number ∷ more_series ∷ es))
-step Open rest (series ∷ es) = option_map (λ p. ((series_tree p.0, p.1.0), p.1.1)) (rest (series ∷ close_sign ∷ more_series ∷ es))
-step Const rest (series ∷ es) = option_map (λ p. ((t.constant p.0 p.1.0 p.1.1.0, p.1.1.1.0), p.1.1.1.1)) (rest (open_sign ∷ whole ∷ comma_sign ∷ place ∷ comma_sign ∷ place ∷ close_sign ∷ more_series ∷ es))
-step Shift rest (series ∷ es) = option_map (λ p. ((t.shift (series_tree p.0) p.1.0, p.1.1.0), p.1.1.1)) (rest (open_sign ∷ series ∷ comma_sign ∷ place ∷ close_sign ∷ more_series ∷ es))
+step Minus rest (series ∷ es) =
+    option_map (λ p. ((t.bare (neg_ℤ (pos p.0)), p.1.0), p.1.1)) (rest (number ∷ more_series ∷ es))
+step Open rest (series ∷ es) =
+    option_map (λ p. ((series_tree p.0, p.1.0), p.1.1)) (rest (series ∷ close_sign ∷ more_series ∷ es))
+step Const rest (series ∷ es) =
+    option_map (λ p. ((t.constant p.0 p.1.0 p.1.1.0, p.1.1.1.0), p.1.1.1.1))
+    (rest (open_sign ∷ whole ∷ comma_sign ∷ place ∷ comma_sign ∷ place ∷ close_sign ∷ more_series ∷ es))
+step Shift rest (series ∷ es) =
+    option_map (λ p. ((t.shift (series_tree p.0) p.1.0, p.1.1.0), p.1.1.1))
+    (rest (open_sign ∷ series ∷ comma_sign ∷ place ∷ close_sign ∷ more_series ∷ es))
 step Plus rest (more_series ∷ es) = option_map (λ p. (plus p.0.0 p.0.1, p.1)) (rest (series ∷ es))
 step Minus rest (more_series ∷ es) = option_map (λ p. (minus p.0.0 p.0.1, p.1)) (rest (series ∷ es))
 step Times rest (more_series ∷ es) = option_map (λ p. (times p.0.0 p.0.1, p.1)) (rest (series ∷ es))
 step t rest (more_series ∷ es) = option_map (λ p. (end, p)) (step t rest es)
-step Comma rest (ends ∷ es) = option_map (λ p. (Some (range_from p.0 p.1.0), p.1.1)) (rest (place ∷ comma_sign ∷ place ∷ close_sign ∷ es))
+step Comma rest (ends ∷ es) =
+    option_map (λ p. (Some (range_from p.0 p.1.0), p.1.1)) (rest (place ∷ comma_sign ∷ place ∷ close_sign ∷ es))
 step Close rest (ends ∷ es) = option_map (λ p. (None, p)) (rest es)
 step (Number n) rest (whole ∷ es) = option_map (λ p. (pos n, p)) (rest es)
 step Minus rest (whole ∷ es) = option_map (λ p. (neg_ℤ (pos p.0), p.1)) (rest (number ∷ es))

@@ -23,7 +23,8 @@ word_of_length n = if nat_le n most_word then Some (Word, n) else None
 abbrev pub number_of_length : List ℕ → ℕ → Option (Kind × ℕ)
 number_of_length text n = if is_number (take n text) then Some (Number, n) else None
 
--- the token at the front of a text, as long as possible, and its length; None where there is none, or none that is allowed
+-- the token at the front of a text, as long as possible, and its length; None where there is none, or none that is
+-- allowed
 unfoldable pub front : List ℕ → Option (Kind × ℕ)
 front [] = None
 front (c ∷ cs) =
@@ -41,12 +42,14 @@ abbrev pub at_front : ℕ → Option (Kind × ℕ) → (ℕ → Result (List Tok
 at_front place None rest = Err place
 at_front place (Some (kind, n)) rest = before (record { kind = kind; from = place; to = place + n }) (rest (n - 1))
 
--- the tokens of the text from a place on, behind so many bytes of a token that stands before; else the place of the first
--- byte that begins none
+-- the tokens of the text from a place on, behind so many bytes of a token that stands before; else the place of the
+-- first byte that begins none
 abbrev pub tokens_from : ℕ → ℕ → List ℕ → Result (List Token) ℕ
 tokens_from left place [] = Ok []
 tokens_from (suc left) place (c ∷ cs) = tokens_from left (suc place) cs
-tokens_from zero place (c ∷ cs) = if is_blank c then tokens_from zero (suc place) cs else at_front place (front (c ∷ cs)) (λ left. tokens_from left (suc place) cs)
+tokens_from zero place (c ∷ cs) =
+    if is_blank c then tokens_from zero (suc place) cs
+    else at_front place (front (c ∷ cs)) (λ left. tokens_from left (suc place) cs)
 
 unfoldable pub tokens_of : List ℕ → Result (List Token) ℕ
 tokens_of text = tokens_from 0 0 text

@@ -13,8 +13,8 @@ use expr::{Bounds, Query, Series};
 use num_text::{Memory, write_i128};
 use std::alloc::Global;
 
-/// What an operand stands in: a sum as its left or nothing at all, a product as its left or a sum as its right, or a product
-/// as its right.
+/// What an operand stands in: a sum as its left or nothing at all, a product as its left or a sum as its right, or a
+/// product as its right.
 #[derive(Clone, Copy)]
 pub(crate) enum Level {
     OfSum,
@@ -162,7 +162,8 @@ fn write_sum(
     t: &Series,
     bounds: Option<Bounds>,
 ) -> Result<(), Memory>
-    ensures appended { OnOk result (into.new.items ≡ into.old.items ++ query_text Level.OfSum (sum (term_of t.now) (option_map range_of bounds))) }
+    ensures appended { OnOk result (into.new.items
+        ≡ into.old.items ++ query_text Level.OfSum (sum (term_of t.now) (option_map range_of bounds))) }
     ensures named { OnOk result (IsNamedSeries (term_of t.now)) }
 {
     put(into, "sum(")?;
@@ -177,7 +178,8 @@ fn write_variance(
     t: &Series,
     bounds: Bounds,
 ) -> Result<(), Memory>
-    ensures appended { OnOk result (into.new.items ≡ into.old.items ++ query_text Level.OfSum (variance (term_of t.now) (range_of bounds))) }
+    ensures appended { OnOk result (into.new.items
+        ≡ into.old.items ++ query_text Level.OfSum (variance (term_of t.now) (range_of bounds))) }
     ensures named { OnOk result (IsNamedSeries (term_of t.now)) }
 {
     put(into, "varnum(")?;
@@ -193,7 +195,8 @@ fn write_covariance(
     u: &Series,
     bounds: Bounds,
 ) -> Result<(), Memory>
-    ensures appended { OnOk result (into.new.items ≡ into.old.items ++ query_text Level.OfSum (covariance (term_of t.now) (term_of u.now) (range_of bounds))) }
+    ensures appended { OnOk result (into.new.items
+        ≡ into.old.items ++ query_text Level.OfSum (covariance (term_of t.now) (term_of u.now) (range_of bounds))) }
     ensures named { OnOk result (IsNamedSeries (term_of t.now) × IsNamedSeries (term_of u.now)) }
 {
     put(into, "covnum(")?;
@@ -247,7 +250,8 @@ pub fn print(alloc: Global, q: &Query) -> Result<Vec<u8>, Memory>
 
     // It is parsed as the query again, where it is not too long.
     ensures read_again { IfOk result (λ text.
-        IsWithinLimits (query_term_of q.now) → length text.items ≤ most_text → parsed text.items ≡ Ok (query_term_of q.now)) }
+        IsWithinLimits (query_term_of q.now) → length text.items ≤ most_text
+        → parsed text.items ≡ Ok (query_term_of q.now)) }
 {
     let mut text = Vec::new(alloc);
     write_query(alloc, &mut text, Level::OfSum, q)?;

@@ -40,7 +40,8 @@ fn read_sum<'a>(alloc: Global, ts: &'a [Lexeme]) -> Result<(Query, &'a [Lexeme])
 fn read_variance<'a>(alloc: Global, ts: &'a [Lexeme]) -> Result<(Query, &'a [Lexeme]), Stuck>
     ensures found { IfOk result (λ r. IsFactor (Lexeme.VarNum ∷ ts.now) r.1.now (query_term_of r.0)) }
     ensures shorter { IfOk result (λ r. length r.1.now < length ts.now) }
-    ensures stuck { IfErr result (λ e. IsStuck (open_sign ∷ series ∷ comma_sign ∷ place ∷ comma_sign ∷ place ∷ close_sign ∷ []) ts.now e) }
+    ensures stuck { IfErr result (λ e.
+        IsStuck (open_sign ∷ series ∷ comma_sign ∷ place ∷ comma_sign ∷ place ∷ close_sign ∷ []) ts.now e) }
 {
     let first = open(ts)?;
     let (t, mid) = read_series(alloc, first)?;
@@ -52,7 +53,9 @@ fn read_variance<'a>(alloc: Global, ts: &'a [Lexeme]) -> Result<(Query, &'a [Lex
 fn read_covariance<'a>(alloc: Global, ts: &'a [Lexeme]) -> Result<(Query, &'a [Lexeme]), Stuck>
     ensures found { IfOk result (λ r. IsFactor (Lexeme.CovNum ∷ ts.now) r.1.now (query_term_of r.0)) }
     ensures shorter { IfOk result (λ r. length r.1.now < length ts.now) }
-    ensures stuck { IfErr result (λ e. IsStuck (open_sign ∷ series ∷ comma_sign ∷ series ∷ comma_sign ∷ place ∷ comma_sign ∷ place ∷ close_sign ∷ []) ts.now e) }
+    ensures stuck { IfErr result (λ e.
+        IsStuck (open_sign ∷ series ∷ comma_sign ∷ series ∷ comma_sign ∷ place ∷ comma_sign ∷ place ∷ close_sign ∷ [])
+        ts.now e) }
 {
     let first = open(ts)?;
     let (t, mid) = read_series(alloc, first)?;

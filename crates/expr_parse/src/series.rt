@@ -137,7 +137,8 @@ pub(crate) fn read_range(ts: &[Lexeme]) -> Result<(Bounds, &[Lexeme]), Stuck>
 fn read_constant(ts: &[Lexeme]) -> Result<(Series, &[Lexeme]), Stuck>
     ensures found { IfOk result (λ r. IsFactor (Lexeme.Const ∷ ts.now) r.1.now (term_of r.0)) }
     ensures shorter { IfOk result (λ r. length r.1.now < length ts.now) }
-    ensures stuck { IfErr result (λ e. IsStuck (open_sign ∷ whole ∷ comma_sign ∷ place ∷ comma_sign ∷ place ∷ close_sign ∷ []) ts.now e) }
+    ensures stuck { IfErr result (λ e.
+        IsStuck (open_sign ∷ whole ∷ comma_sign ∷ place ∷ comma_sign ∷ place ∷ close_sign ∷ []) ts.now e) }
 {
     let first = open(ts)?;
     let (v, mid) = read_whole(first)?;

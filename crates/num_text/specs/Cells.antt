@@ -55,10 +55,13 @@ abbrev pub value_of : Bool → ℕ → Cell
 value_of negative n = if nat_lt greatest_reading n then TooLarge else Value (with_sign negative n)
 
 abbrev pub decimal_of : ℕ → Bool → List ℕ → Cell
-decimal_of scale negative text = if is_decimal text then value_of negative (scaled scale (whole_of text) (fraction_of text)) else Bad
+decimal_of scale negative text =
+    if is_decimal text then value_of negative (scaled scale (whole_of text) (fraction_of text)) else Bad
 
 abbrev pub is_missing : List ℕ → Bool
-is_missing text = length text == 0 || bytes_eq text (codes "NaN") || bytes_eq text (codes "nan") || bytes_eq text (codes "NA") || bytes_eq text (codes "null")
+is_missing text =
+    length text == 0 || bytes_eq text (codes "NaN") || bytes_eq text (codes "nan") || bytes_eq text (codes "NA")
+    || bytes_eq text (codes "null")
 
 abbrev pub of_trimmed : ℕ → List ℕ → Cell
 of_trimmed scale text = if is_missing text then Missing else decimal_of scale (has_minus text) (without_sign text)

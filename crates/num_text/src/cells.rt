@@ -82,7 +82,8 @@ const GREATEST_READING: u128 = 1_000_000_000;
 
 /// One where the digit behind so many places rounds up.
 fn carry(fraction: &[u8], places: usize) -> u128
-    ensures { result ≡ (if nat_lt places (length fraction.now) && nat_le 53 (slice_index fraction.now places) then 1 else 0) }
+    ensures { result
+        ≡ (if nat_lt places (length fraction.now) && nat_le 53 (slice_index fraction.now places) then 1 else 0) }
 {
     if places < fraction.len() && fraction[places] >= b'5' {
         1
@@ -140,8 +141,8 @@ fn decimal_of(scale: u8, negative: bool, text: &[u8]) -> Cell
     value_of(negative, scaled(scale, whole, fraction))
 }
 
-/// Reads a cell: a decimal times 10^`scale`, rounded to a whole number, halves away from zero. Blanks at both ends don't
-/// count, and an empty cell, `NaN`, `nan`, `NA` and `null` are missing.
+/// Reads a cell: a decimal times 10^`scale`, rounded to a whole number, halves away from zero. Blanks at both ends
+/// don't count, and an empty cell, `NaN`, `nan`, `NA` and `null` are missing.
 pub fn read_scaled(text: &[u8], scale: u8) -> Cell
     requires { scale ≤ most_scale }
     ensures { result ≡ cell_of scale text.now }

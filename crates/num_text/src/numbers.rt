@@ -19,7 +19,8 @@ fn without_minus(text: &[u8]) -> &[u8]
     }
 }
 
-/// Reads an optional `-` and one or more digits, of magnitude at most 2^127-1. `None` says that the text is no such number.
+/// Reads an optional `-` and one or more digits, of magnitude at most 2^127-1. `None` says that the text is no such
+/// number.
 pub fn read_i128(text: &[u8]) -> Option<i128>
     ensures { result ≡ number_in text.now }
 {

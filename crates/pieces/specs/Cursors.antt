@@ -13,8 +13,10 @@ pub record StaysIn (spans : List Span) (occ : Occ) (at : ℤ) (len s : ℕ) : Ty
 abbrev pub EndsBehind : List Span → Occ → ℤ → ℕ → ℕ → Type 0
 EndsBehind spans occ at len s = pos (end_of (span_at spans s)) ≡ ((at +ℤ pos len) -ℤ occ.shift)
 
--- the first k occurrences stay in the segments of their cursors, on as many positions as all of them can, and `most` at most
-pub record IsStepped (spans : List Span) (occs : List Occ) (at : ℤ) (most : ℕ) (before cursors : List ℕ) (len k : ℕ) : Type 0 where
+-- the first k occurrences stay in the segments of their cursors, on as many positions as all of them can, and `most` at
+-- most
+pub record IsStepped (spans : List Span) (occs : List Occ) (at : ℤ) (most : ℕ) (before cursors : List ℕ) (len k : ℕ)
+    : Type 0 where
   pub count : length cursors ≡ length occs
   pub some : 1 ≤ len
   pub within : len ≤ most

@@ -79,8 +79,8 @@ pub record IsInOne (pieces : List PieceView) (i : ℤ) : Type 0 where
   pub inside : IsIn (piece_at pieces place) i
   pub alone : (k : ℕ) → k < length pieces → IsIn (piece_at pieces k) i → k ≡ place
 
--- the pieces of a range: each position of it lies in exactly one, at each position of a piece the occurrences read the segments
--- of the piece, and neighbours differ in some segment
+-- the pieces of a range: each position of it lies in exactly one, at each position of a piece the occurrences read the
+-- segments of the piece, and neighbours differ in some segment
 pub record IsRefinement (spans : List Span) (occs : List Occ) (l r : ℤ) (pieces : List PieceView) : Type 0 where
   pub runs : RunFrom l pieces r
   pub reads : (k : ℕ) → k < length pieces → (j : ℕ) → j < (piece_at pieces k).len →

@@ -1,4 +1,5 @@
-//! The common refinement of shifted segments: a range cut into pieces on which each occurrence of a series stays in one segment.
+//! The common refinement of shifted segments: a range cut into pieces on which each occurrence of a series stays in one
+//! segment.
 #![tactic(auto)]
 
 mod cursors;

@@ -49,3 +49,6 @@ pub pow_above : (n k : ℕ) → 0 < k → n ≤ n ^ k
 pow_above n zero some = absurd (omega arith)
 pow_above zero (suc k) some = omega arith
 pow_above (suc n) (suc k) some = let more : suc n * 1 ≤ suc n * suc n ^ k = mul-le-mul_left (suc n) (one-le-pow k (suc n) (omega arith)) in omega (arith, more, pow-suc (suc n) k)
+
+-- what the closed form of the fourth powers needs
+pub ruleset fourth_power = (closed_4, pow_below, pow_above)

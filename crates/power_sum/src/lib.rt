@@ -67,7 +67,7 @@ fn cubes(n: u128) -> u128
 }
 
 /// The sum of the fourth powers up to `n`.
-#[tactic(auto, using(crate::proofs::ClosedForms::closed_4, crate::proofs::ClosedForms::pow_below, crate::proofs::ClosedForms::pow_above))]
+#[tactic(auto, using(crate::proofs::ClosedForms::fourth_power))]
 fn fourth_powers(n: u128) -> u128
     requires { n < most_readings }
     ensures value { result ≡ power_total 4 (suc n) }

@@ -88,7 +88,8 @@ is_inside range domain = int_le domain.left range.left && int_le range.right dom
 
 -- whether a range ends before it begins, or has positions and lies not inside of the domain
 abbrev pub is_outside : Option Range → Range → Bool
-is_outside (Some range) domain = int_lt range.right range.left || (int_lt range.left range.right && not (is_inside range domain))
+is_outside (Some range) domain =
+    int_lt range.right range.left || (int_lt range.left range.right && not (is_inside range domain))
 is_outside None domain = false
 
 -- ---- the magnitude of a sum
@@ -124,13 +125,14 @@ bound_of facts (mul p q) = bound_of facts p * bound_of facts q
 -- whether a node is a sum with a part that is too great, or has a bound that is too great
 abbrev pub is_too_great : List Fact → QueryTerm → Bool
 is_too_great facts (sum t range) =
-    some_part (is_great_over (greatest_at facts) (extent_of facts t range)) t || nat_lt range_limit (bound_of facts (sum t range))
+    some_part (is_great_over (greatest_at facts) (extent_of facts t range)) t
+    || nat_lt range_limit (bound_of facts (sum t range))
 is_too_great facts q = nat_lt range_limit (bound_of facts q)
 
 -- ---- the rules
 
--- why a query is refused: a name that is unknown, the number of a sum whose rank is too high, the number of a sum that leaves
--- its domain and the ends of that, or the number of a node that is too great
+-- why a query is refused: a name that is unknown, the number of a sum whose rank is too high, the number of a sum that
+-- leaves its domain and the ends of that, or the number of a node that is too great
 pub data NotAdmitted : Type 0 where
   unknown : List ℕ → NotAdmitted
   high_rank : ℕ → NotAdmitted
@@ -164,8 +166,8 @@ HasLowRanks (add p q) = HasLowRanks p × HasLowRanks q
 HasLowRanks (sub p q) = HasLowRanks p × HasLowRanks q
 HasLowRanks (mul p q) = HasLowRanks p × HasLowRanks q
 
--- why a plain query is refused, None where it is admitted: the first name that is unknown, else the first sum whose rank is too
--- high, else the first sum outside of its domain, else the first node that is too great
+-- why a plain query is refused, None where it is admitted: the first name that is unknown, else the first sum whose
+-- rank is too high, else the first sum outside of its domain, else the first node that is too great
 abbrev pub refusal_of : List Fact → QueryTerm → Option NotAdmitted
 refusal_of facts q =
     option_or (option_map unknown (find (is_unknown facts) (query_names q)))

@@ -9,9 +9,12 @@ use Rattle.semantics.specs.Value.{domain_of}
 abbrev pub IsKnown : List Fact → List ℕ → Type 0
 IsKnown facts name = is_unknown facts name ≡ false
 
--- a range does not end before it begins, and lies in the domain where it has positions; one that is not given is the domain
+-- a range does not end before it begins, and lies in the domain where it has positions; one that is not given is the
+-- domain
 abbrev pub IsInDomain : Option Range → Range → Type 0
-IsInDomain (Some range) domain = (range.left ≤ℤ range.right) × (range.left <ℤ range.right → (domain.left ≤ℤ range.left) × (range.right ≤ℤ domain.right))
+IsInDomain (Some range) domain =
+    (range.left ≤ℤ range.right)
+    × (range.left <ℤ range.right → (domain.left ≤ℤ range.left) × (range.right ≤ℤ domain.right))
 IsInDomain None domain = Unit {0}
 
 pub record IsAdmittedSum (facts : List Fact) (t : Term) (range : Option Range) : Type 0 where

@@ -5,7 +5,8 @@ use Rattle.semantics.specs.Term.{Term, times, Range, QueryTerm, number, sum, var
 -- N times the sum of the products, less the product of the sums
 abbrev pub statistic : Term → Term → Range → QueryTerm
 statistic t u range =
-    sub (mul (number (range.right -ℤ range.left)) (sum (times t u) (Some range))) (mul (sum t (Some range)) (sum u (Some range)))
+    sub (mul (number (range.right -ℤ range.left)) (sum (times t u) (Some range)))
+    (mul (sum t (Some range)) (sum u (Some range)))
 
 abbrev pub plain : QueryTerm → QueryTerm
 plain (number v) = number v

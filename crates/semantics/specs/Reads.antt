@@ -1,4 +1,5 @@
--- Where a series is read: at a position of its domain, each stored series and each constant inside of its own positions.
+-- Where a series is read: at a position of its domain, each stored series and each constant inside of its own
+-- positions.
 use Rattle.std.specs.Prelude.{◌≡◌, ◌&&◌, ℕ, ℤ, pos, ◌+ℤ◌, ◌-ℤ◌, ◌*ℤ◌, ◌≤ℤ◌, ◌<ℤ◌, int_le, int_lt, if◌then◌else◌, Bool, List, Option}
 use Rattle.semantics.specs.Admission.{Fact, count_at}
 use Rattle.semantics.specs.Admitted.{IsAdmittedSum}
@@ -41,7 +42,9 @@ ending_value X (shift u k) i = ending_value X u (i -ℤ k)
 
 -- in the domain of a series it makes no difference what constants are outside of theirs
 abbrev pub ConstantsMayEnd : Type 0
-ConstantsMayEnd = (X : List ℕ → List ℤ) (t : Term) (i : ℤ) → IsIn (domain_of (count_of X) t) i → ending_value X t i ≡ series_value X t i
+ConstantsMayEnd =
+    (X : List ℕ → List ℤ) (t : Term) (i : ℤ) → IsIn (domain_of (count_of X) t) i
+    → ending_value X t i ≡ series_value X t i
 
 -- an admitted sum reads stored series and constants inside of their domains alone
 abbrev pub SumsReadInside : Type 0

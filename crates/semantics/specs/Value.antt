@@ -26,7 +26,8 @@ common a b = record { left = int_max a.left b.left; right = int_min a.right b.ri
 abbrev pub moved : Range → ℤ → Range
 moved a k = record { left = a.left +ℤ k; right = a.right +ℤ k }
 
--- the positions at which a series has a value, by the length of each name's readings; none where right is not above left
+-- the positions at which a series has a value, by the length of each name's readings; none where right is not above
+-- left
 abbrev pub domain_of : (List ℕ → ℕ) → Term → Range
 domain_of N (base name) = record { left = pos 0; right = pos (N name) }
 domain_of N (constant v a b) = record { left = a; right = b }

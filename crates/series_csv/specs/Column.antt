@@ -37,7 +37,8 @@ by_field scale k last (Some text) = by_cell k last (cell_of scale text)
 
 -- the reading of record k, behind the last reading
 abbrev pub reading_of : ℕ → ℕ → ℕ → Option ℤ → List (List ℕ) → Result ℤ CsvErr
-reading_of place scale k last fields = if nat_lt most_readings k then Err (errors.TooLong k) else by_field scale k last (field_at fields place)
+reading_of place scale k last fields =
+    if nat_lt most_readings k then Err (errors.TooLong k) else by_field scale k last (field_at fields place)
 
 -- a reading, and the readings behind it
 abbrev pub joined : ℤ → Result (List ℤ) CsvErr → Result (List ℤ) CsvErr
@@ -52,7 +53,8 @@ followed (Ok x) rest = joined x (rest (Some x))
 -- the readings of the records from number k on, behind the last reading
 abbrev pub readings_from : ℕ → ℕ → ℕ → Option ℤ → List (List (List ℕ)) → Result (List ℤ) CsvErr
 readings_from place scale k last [] = Ok []
-readings_from place scale k last (row ∷ rows) = followed (reading_of place scale k last row) (λ x. readings_from place scale (suc k) x rows)
+readings_from place scale k last (row ∷ rows) =
+    followed (reading_of place scale k last row) (λ x. readings_from place scale (suc k) x rows)
 
 abbrev pub under_header : ℕ → Option ℤ → List (List (List ℕ)) → Option ℕ → Result (List ℤ) CsvErr
 under_header scale before rows None = Err errors.NoColumn

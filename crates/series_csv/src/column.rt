@@ -81,7 +81,8 @@ fn read_rows(
     requires scale { scale ≤ most_scale }
     ensures few { IfOk result (λ v. length v.items ≤ most_readings) }
     ensures ok { IfOk result (λ v. readings_from place scale 1 before (rows_left rdr.old) ≡ Ok v.items) }
-    ensures refused { IfErr result (λ e. (e ≡ CsvErr.Memory) ⊎ (readings_from place scale 1 before (rows_left rdr.old) ≡ Err e)) }
+    ensures refused { IfErr result (λ e.
+        (e ≡ CsvErr.Memory) ⊎ (readings_from place scale 1 before (rows_left rdr.old) ≡ Err e)) }
 {
     let mut row = ByteRecord::new(alloc);
     let mut readings = Vec::new(alloc);
@@ -111,7 +112,8 @@ fn read_under_header(
     requires scale { scale ≤ most_scale }
     ensures few { IfOk result (λ v. length v.items ≤ most_readings) }
     ensures ok { IfOk result (λ v. of_records (rows_left rdr.old) column.now scale before ≡ Ok v.items) }
-    ensures refused { IfErr result (λ e. (e ≡ CsvErr.Memory) ⊎ (of_records (rows_left rdr.old) column.now scale before ≡ Err e)) }
+    ensures refused { IfErr result (λ e.
+        (e ≡ CsvErr.Memory) ⊎ (of_records (rows_left rdr.old) column.now scale before ≡ Err e)) }
 {
     let mut header = ByteRecord::new(alloc);
     let found = next_row(rdr, &mut header)?;
@@ -124,8 +126,8 @@ fn read_under_header(
     read_rows(alloc, rdr, place, scale, before)
 }
 
-/// The readings of a column of a CSV text, each times 10^`scale` and rounded, in the order of the records. A missing cell
-/// repeats the reading before it, for the first record `before`.
+/// The readings of a column of a CSV text, each times 10^`scale` and rounded, in the order of the records. A missing
+/// cell repeats the reading before it, for the first record `before`.
 #[tactic(auto, using(crate::proofs::NearLaws::column_near), unfolding(crate::specs::Column::column_of))]
 pub fn read_column(
     alloc: Global,

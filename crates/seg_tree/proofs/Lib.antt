@@ -3,6 +3,7 @@ pub mod Added
 pub mod Extended
 pub mod GrownSeries
 pub mod GrownTrees
+pub mod LastLaws
 pub mod ReachedNodes
 pub mod SlotLaws
 pub mod SweepLaws

@@ -6,6 +6,7 @@ mod arena;
 mod arena_nodes;
 mod building;
 mod growing;
+mod last;
 mod laws;
 mod nodes;
 mod places;

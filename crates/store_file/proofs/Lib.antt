@@ -6,6 +6,7 @@ pub mod GoodLaws
 pub mod GrownLaws
 pub mod HeaderLaws
 pub mod ImageLaws
+pub mod LastLaws
 pub mod SeriesReading
 pub mod StoredLaws
 pub mod TreeImages

@@ -4,6 +4,7 @@ pub mod Facts
 pub mod Good
 pub mod Grown
 pub mod Header
+pub mod Last
 pub mod Laws
 pub mod Restored
 pub mod StoreValue

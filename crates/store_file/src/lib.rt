@@ -7,6 +7,7 @@ mod decoding;
 mod entry_reading;
 mod facts;
 mod header;
+mod last;
 mod laws;
 mod reading;
 mod store;

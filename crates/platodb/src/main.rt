@@ -2,8 +2,12 @@
 //! number of its status. Where the system does not hand out the words, it ends with 1 for want of memory, else with 100.
 #![tactic(auto)]
 
+ghost use Rattle.std.specs.Prelude.{◌≡◌};
+ghost use Rattle.std.specs.Process.{exit_status};
+ghost use Rattle.query_cli.specs.Statuses.{number_of_status};
+
 use outside::{DirShelf, StdOut};
-use query_cli::run;
+use query_cli::{Status, run};
 use std::env;
 use std::io::{self, ErrorKind};
 use std::process::ExitCode;
@@ -26,6 +30,13 @@ fn all_words(rt: &HostRuntime) -> io::Result<Vec<String>> {
     Ok(words)
 }
 
+// The program ends with the number of the status.
+fn ended(status: Status) -> ExitCode
+    ensures { exit_status result ≡ number_of_status status }
+{
+    ExitCode::from(status.number())
+}
+
 fn main(rt: HostRuntime) -> ExitCode {
     let words = match all_words(&rt) {
         Ok(words) => words,
@@ -36,5 +47,5 @@ fn main(rt: HostRuntime) -> ExitCode {
     let mut shelf = DirShelf::new(rt.alloc(), &rt);
     let mut out = StdOut::new(&rt);
     let status = run(rt.alloc(), after_name, &mut shelf, &mut out);
-    ExitCode::from(status.number())
+    ended(status)
 }

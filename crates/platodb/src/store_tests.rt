@@ -185,6 +185,26 @@ fn failing_calls(rt: HostRuntime) -> Result<(), Fail> {
     )
 }
 
+// A refusal stands before the faults of the calls behind it, which are not made.
+#[test]
+fn refusals_before_faults(rt: HostRuntime) -> Result<(), Fail> {
+    let alloc = rt.alloc();
+    let mut shelf = shelf_with(alloc, &[("a.csv", ALTERNATING)], &[2, 4], &[])?;
+    says(
+        &rt,
+        alloc,
+        &mut shelf,
+        &[
+            ("load t x a.csv v", "absent t\n", 6),
+            ("query s 0 sum(x", "query at 5\n", 11),
+            ("query s 0 1", "read fault\n", 3),
+            ("new s 0 0", "new\n", 0),
+            ("load s x a.csv v", "read fault\n", 3),
+            ("load s x a.csv v", "loaded x 32\n", 0),
+        ],
+    )
+}
+
 // A load whose line is cut off was done whole.
 #[test]
 fn failing_put(rt: HostRuntime) -> Result<(), Fail> {

@@ -1,9 +1,11 @@
 // Runs of the top call over files in memory.
 
+use crate::ended;
 use outside::{Bytes, MemOut, MemShelf};
 use query_cli::{Status, run};
 use std::alloc::Global;
 use std::collections::BTreeMap;
+use std::process::ExitCode;
 use std::test::Fail;
 
 pub(crate) const ALTERNATING: &[u8] =
@@ -213,4 +215,11 @@ fn queries(rt: HostRuntime) -> Result<(), Fail> {
     let (ended, out) = outcome(alloc, "query a.csv 0 1", b"PLAT", &[], &[])?;
     assert!(rt; ended == Status::BadStore && out.bytes() == b"store fault\n".as_slice());
     Ok(())
+}
+
+#[test]
+fn ends_with_the_number(rt: HostRuntime) {
+    assert!(rt; ended(Status::Ok) == ExitCode::from(0));
+    assert!(rt; ended(Status::Domain) == ExitCode::from(12));
+    assert!(rt; ended(Status::ArenaFull) == ExitCode::from(17));
 }

@@ -1,144 +1,143 @@
--- Commands by their steps.
-use Rattle.std.proofs.Common.{◌≡◌, ℕ, List, [], ◌∷◌, ◌++◌, length, Bool, true, false, Option, Some, None, Result, Ok, Err, ℤ, refl, sym, ap, subst, ◌∙◌, inl, inr}
+-- The steps of commands.
+use Rattle.std.proofs.Common.{◌≡◌, ◌∙◌, ◌^◌, ◌+◌, ◌≤◌, ℕ, ℤ, Bool, true, false, List, length, Option, Some, None, Result, Ok, Err, refl, ap, sym, inl, arith}
 use Rattle.std.specs.Prelude.{nat_lt, if◌then◌else◌}
 use Rattle.std.specs.Result.{result_err}
-use Rattle.semantics.specs.Files.{Files, IfTold, file_of, with_file}
-use Rattle.series_csv.specs.Column.{column_of}
-use Rattle.store_file.specs.Added.{IsAddable}
-use Rattle.store_file.specs.StoreValue.{StoreValue, store_image}
-use Rattle.store_file.proofs.ImageLaws.{images-differ}
-use Rattle.query_cli.specs.Answers.{Loaded, loaded_in, loaded_by, refusal_of, store_after, files_after, files_after_load}
-use Rattle.query_cli.specs.Causes.{IsCause, IsDone}
-use Rattle.query_cli.specs.Commands.{LoadCommand, load}
-use Rattle.query_cli.specs.Loads.{Loads}
-use Rattle.query_cli.specs.Refusals.{Refusal, replace_fault, too_big, bad_csv, IsOfRoom, IsOfLoaded, IsOfColumn}
-use Rattle.query_cli.specs.Replay.{Accepted, adds, step, replay, IsHistory, AddsColumn}
-use Rattle.query_cli.specs.Steps.{bytes_within, refused_as, file_in, most_csv, most_store, store_in, room_in, column_in}
-use Rattle.query_cli.specs.Stops.{IfRefused, IsStepRefusal}
-use Rattle.query_cli.proofs.ReplayLaws.{replay-more, IsHistory-more, histories-make-stores}
-use Rattle.query_cli.specs.declared.refusal.Stop.{Stop}
-use Rattle.query_cli.specs.declared.refusal.Stop.TheVariants as stop
+use Rattle.outside.specs.Parts.{RisesBy}
+use Rattle.semantics.specs.Files.{Files, IfTold, file_of}
+use Rattle.store_file.specs.Added.{HasRoom, add_refusal, name_refusal}
+use Rattle.store_file.specs.StoreValue.{StoreValue}
+use Rattle.store_file.specs.Stored.{StoreParts, store_value}
+use Rattle.store_file.specs.declared.adding.SeriesErr.{SeriesErr}
+use Rattle.store_file.proofs.AddedLaws.{room-is-enough}
+use Rattle.query_cli.specs.Commands.{Command, refusal_of}
+use Rattle.query_cli.specs.Reading.{File, IsRead, Reading, file_at, file_within, held, missing, most_csv, most_store, oversized, reading_in}
+use Rattle.query_cli.specs.Refusals.{Refusal, series_fault, usage}
+use Rattle.query_cli.specs.Run.{IsKeptOrReplayed, IsRefused}
+use Rattle.query_cli.specs.Shelf.{RoseAtMost}
+use Rattle.query_cli.specs.Steps.{bytes_of, room_in, unless_refused}
+use Rattle.query_cli.specs.Stops.{IfRefused, IfStopped, IsStepRefusal, IsUnread}
+use Rattle.query_cli.specs.declared.stop.Halt.{Halt}
+use Rattle.query_cli.specs.declared.stop.Halt.TheVariants as halt
+use Rattle.query_cli.specs.declared.stop.Stop.{Stop}
+use Rattle.query_cli.specs.declared.stop.Stop.TheVariants as stop
 
 -- a fact of a refusal that follows from another
 pub refused-map : (s : Stop) (P Q : Refusal → Type 0) → ((r : Refusal) → P r → Q r) → IfRefused s P → IfRefused s Q
 refused-map stop.Memory P Q f h = tt
 refused-map (stop.Refused reply) P Q f h = (h.0, f h.0 h.1, h.2)
 
--- ---- `load`, once its files are read
+pub stopped-map : (h : Halt) (P Q : Refusal → Type 0) → ((r : Refusal) → P r → Q r) → IfStopped h P → IfStopped h Q
+stopped-map (halt.Faulted f) P Q g k = tt
+stopped-map (halt.Stopped s) P Q g k = refused-map s P Q g k
 
-pub no_room : (c : LoadCommand) (stored text : List ℕ) (m : StoreValue) (r : Refusal) → store_in stored ≡ Ok m → room_in m c.name ≡ Err r → loaded_in c stored text ≡ Err r
-no_room c stored text m r e f = rw e (rw f refl)
-
-pub no_column : (c : LoadCommand) (stored text : List ℕ) (m : StoreValue) (r : Refusal) → store_in stored ≡ Ok m → room_in m c.name ≡ Ok m
-    → column_in text c.column m.scale ≡ Err r → loaded_in c stored text ≡ Err r
-no_column c stored text m r e f k = rw e (rw f (rw k refl))
-
-pub loaded-by : (c : LoadCommand) (stored text : List ℕ) (m : StoreValue) (xs : List ℤ) → store_in stored ≡ Ok m → room_in m c.name ≡ Ok m
-    → column_in text c.column m.scale ≡ Ok xs → loaded_in c stored text ≡ Ok (record { store = m; readings = xs })
-loaded-by c stored text m xs e f k = rw e (rw f (rw k refl))
-
-pub room_refused : (c : LoadCommand) (stored text : List ℕ) (m : StoreValue) (s : Stop) → store_in stored ≡ Ok m
-    → IfRefused s (IsStepRefusal (IsOfRoom c.name) (room_in m c.name)) → IfRefused s (IsStepRefusal (IsOfLoaded c.name) (loaded_in c stored text))
-room_refused c stored text m s e h =
-    refused-map s (IsStepRefusal (IsOfRoom c.name) (room_in m c.name)) (IsStepRefusal (IsOfLoaded c.name) (loaded_in c stored text))
-    (λ r k. record { possible = inr (inl k.possible); called = no_room c stored text m r e k.called }) h
-
-pub column_refused : (c : LoadCommand) (stored text : List ℕ) (m : StoreValue) (s : Stop) → store_in stored ≡ Ok m → room_in m c.name ≡ Ok m
-    → IfRefused s (IsStepRefusal IsOfColumn (column_in text c.column m.scale)) → IfRefused s (IsStepRefusal (IsOfLoaded c.name) (loaded_in c stored text))
-column_refused c stored text m s e f h =
-    refused-map s (IsStepRefusal IsOfColumn (column_in text c.column m.scale)) (IsStepRefusal (IsOfLoaded c.name) (loaded_in c stored text))
-    (λ r k. record { possible = inr (inr k.possible); called = no_column c stored text m r e f k.called }) h
-
--- ---- `load` over the files
-
-load-first : (c : LoadCommand) (m : Files) (r : Refusal) → file_in m most_store c.store ≡ Err r → loaded_by c m ≡ Err r
-load-first c m r e = rw e refl
-
-load-second : (c : LoadCommand) (m : Files) (stored : List ℕ) (r : Refusal) → file_in m most_store c.store ≡ Ok stored → file_in m most_csv c.csv ≡ Err r → loaded_by c m ≡ Err r
-load-second c m stored r e f = rw e (rw f refl)
-
-pub load-files : (c : LoadCommand) (m : Files) (stored text : List ℕ) → file_in m most_store c.store ≡ Ok stored → file_in m most_csv c.csv ≡ Ok text
-    → loaded_by c m ≡ loaded_in c stored text
-load-files c m stored text e f = rw e (rw f refl)
-
-told_load : (c : LoadCommand) (files : Option Files) (stored text : List ℕ) (r : Refusal) → IfTold files (λ m. file_in m most_store c.store ≡ Ok stored)
-    → IfTold files (λ m. file_in m most_csv c.csv ≡ Ok text) → loaded_in c stored text ≡ Err r → IfTold files (λ m. refusal_of m (Some (load c)) ≡ Some r)
-told_load c None stored text r e f h = tt
-told_load c (Some m) stored text r e f h = ap result_err (load-files c m stored text e f ∙ h)
-
-pub load_refused : (c : LoadCommand) (files : Option Files) (stored text : List ℕ) (s : Stop) → IfTold files (λ m. file_in m most_store c.store ≡ Ok stored)
-    → IfTold files (λ m. file_in m most_csv c.csv ≡ Ok text) → IfRefused s (IsStepRefusal (IsOfLoaded c.name) (loaded_in c stored text)) → IfRefused s (IsCause files (Some (load c)))
-load_refused c files stored text s e f h =
-    refused-map s (IsStepRefusal (IsOfLoaded c.name) (loaded_in c stored text)) (IsCause files (Some (load c)))
-    (λ r k. record { possible = inr (inr (inl k.possible)); called = inr (inr (told_load c files stored text r e f k.called)) }) h
-
-told_accepted : (c : LoadCommand) (files : Option Files) (stored text : List ℕ) (l : Loaded) → IfTold files (λ m. file_in m most_store c.store ≡ Ok stored)
-    → IfTold files (λ m. file_in m most_csv c.csv ≡ Ok text) → loaded_in c stored text ≡ Ok l → IfTold files (λ m. loaded_by c m ≡ Ok l)
-told_accepted c None stored text l e f h = tt
-told_accepted c (Some m) stored text l e f h = load-files c m stored text e f ∙ h
-
-no_refusal : (c : LoadCommand) (files : Option Files) (l : Loaded) → IfTold files (λ m. loaded_by c m ≡ Ok l) → IfTold files (λ m. refusal_of m (Some (load c)) ≡ None)
-no_refusal c None l h = tt
-no_refusal c (Some m) l h = ap result_err h
+-- the refusal of a step that stands behind others
+pub step-refused : {A B : Type 0} (s : Stop) (x : Result A Refusal) (y : Result B Refusal) → ((r : Refusal) → x ≡ Err r → y ≡ Err r)
+    → IfRefused s (IsStepRefusal x) → IfRefused s (IsStepRefusal y)
+step-refused s x y f h = refused-map s (IsStepRefusal x) (IsStepRefusal y) (λ r k. record { called = f r k.called; cause = k.cause }) h
 
 -- ---- a file that is read
 
-held-within : (most : ℕ) (name : List ℕ) (o : Option (List ℕ)) (bytes : List ℕ) → bytes_within most name o ≡ Ok bytes → o ≡ Some bytes
-held-within most name None bytes h = cc
-held-within most name (Some held) bytes h = by (nat_lt most (length held)) h
+held-within : (most : ℕ) (o : Option (List ℕ)) (bytes : List ℕ) → file_within most o ≡ held bytes → o ≡ Some bytes
+held-within most None bytes h = cc
+held-within most (Some b) bytes h = by (nat_lt most (length b)) h
   where
-    by : (t : Bool) → ◌≡◌ {A = Result (List ℕ) Refusal} (if t then Err (too_big name) else Ok held) (Ok bytes) → ◌≡◌ {A = Option (List ℕ)} (Some held) (Some bytes)
+    by : (t : Bool) → ◌≡◌ {A = File} (if t then oversized else held b) (held bytes) → ◌≡◌ {A = Option (List ℕ)} (Some b) (Some bytes)
     by true e = cc
     by false e = cc
 
-pub file_in-held : (m : Files) (most : ℕ) (name bytes : List ℕ) → file_in m most name ≡ Ok bytes → file_of m name ≡ Some bytes
-file_in-held m most name bytes h = held-within most name (file_of m name) bytes h
+pub file_at-held : (m : Files) (most : ℕ) (name bytes : List ℕ) → file_at m most name ≡ held bytes → file_of m name ≡ Some bytes
+file_at-held m most name bytes h = held-within most (file_of m name) bytes h
 
--- ---- what `load` comes to
+-- ---- the files that a command reads
 
-no_error : {A E : Type 0} (refusal : E → Refusal) (r : Result A E) (a : A) → refused_as refusal r ≡ Ok a → r ≡ Ok a
-no_error refusal (Ok b) a h = cc
-no_error refusal (Err e) a h = cc
+-- those that are there, where they are told, else those that came
+abbrev pub came : Option Files → File → File → Reading
+came None csv store = record { csv = λ name. csv; store = λ name. store }
+came (Some m) csv store = reading_in m
 
-replaced_after : (c : LoadCommand) (m : Files) (now : Option Files) (l : Loaded) (bytes : List ℕ) → loaded_by c m ≡ Ok l → bytes ≡ store_image (store_after c l)
-    → now ≡ Some (with_file m c.store bytes) → now ≡ Some (files_after m (Some (load c)))
-replaced_after c m now l bytes found is written = written ∙ ap (λ b. Some (with_file m c.store b)) is ∙ sym (ap (λ r. Some (files_after_load m c r)) found)
+pub came-read : (files : Option Files) (csv store : File) → IsRead files (came files csv store)
+came-read None csv store = tt
+came-read (Some m) csv store = refl
 
--- the store that was read is that of the history, and is left with one series more
-adds_column : (c : LoadCommand) (m : Files) (now : Option Files) (stored text line bytes : List ℕ) → file_in m most_store c.store ≡ Ok stored → file_in m most_csv c.csv ≡ Ok text
-    → Loads c stored text line bytes → now ≡ Some (with_file m c.store bytes)
-    → (h : List Accepted) → IsHistory h → file_of m c.store ≡ Some (store_image (replay h)) → AddsColumn m c h now
-adds_column c m now stored text line bytes first second l written h history stands =
-    let held : Some stored ≡ Some (store_image (replay h)) = sym (file_in-held m most_store c.store stored first) ∙ stands in
-    let bytes_same : stored ≡ store_image (replay h) = cc in
-    let same : l.loaded.store ≡ replay h = images-differ l.loaded.store (replay h) l.store (histories-make-stores h history) (l.stands ∙ bytes_same) in
-    let xs : List ℤ = l.loaded.readings in
-    let column : column_of text c.column l.loaded.store.scale None ≡ Ok xs = no_error bad_csv (column_of text c.column l.loaded.store.scale None) xs l.column in
-    let accepted : IsAddable (replay h) c.name xs = subst (λ s. IsAddable s c.name xs) same l.addable in
-    let after : store_after c l.loaded ≡ replay (h ++ adds c.name xs ∷ []) = ap (λ s. step s (adds c.name xs)) same ∙ sym (replay-more h (adds c.name xs)) in
-    record {
-      readings = xs;
-      column = record { bytes = text; held = file_in-held m most_csv c.csv text second; readings = subst (λ (s : StoreValue). column_of text c.column s.scale None ≡ Ok xs) same column };
-      stands = record { history = IsHistory-more h (adds c.name xs) history accepted; files = written ∙ ap (λ b. Some (with_file m c.store b)) (l.bytes_are ∙ ap store_image after) };
-    }
+pub came-csv : (files : Option Files) (name : List ℕ) (csv store : File) → IfTold files (λ m. file_at m most_csv name ≡ csv) → (came files csv store).csv name ≡ csv
+came-csv None name csv store h = refl
+came-csv (Some m) name csv store h = h
 
-pub load_done : (c : LoadCommand) (files now : Option Files) (stored text line bytes : List ℕ) → IfTold files (λ m. file_in m most_store c.store ≡ Ok stored)
-    → IfTold files (λ m. file_in m most_csv c.csv ≡ Ok text) → Loads c stored text line bytes → IfTold files (λ m. now ≡ Some (with_file m c.store bytes))
-    → IsDone files now (Some (load c)) line
-load_done c None now stored text line bytes first second l written =
-    record { answer = record { loaded = l.loaded; found = tt; line = l.line_is }; accepted = tt; files = tt; replayed = tt }
-load_done c (Some m) now stored text line bytes first second l written =
-    let found : loaded_by c m ≡ Ok l.loaded = load-files c m stored text first second ∙ l.found in
-    record {
-      answer = record { loaded = l.loaded; found = found; line = l.line_is };
-      accepted = ap result_err found;
-      files = replaced_after c m now l.loaded bytes found l.bytes_are written;
-      replayed = adds_column c m now stored text line bytes first second l written;
-    }
+pub came-store : (files : Option Files) (name : List ℕ) (csv store : File) → IfTold files (λ m. file_at m most_store name ≡ store) → (came files csv store).store name ≡ store
+came-store None name csv store h = refl
+came-store (Some m) name csv store h = h
 
--- a fault of replacing, where nothing is refused
-pub load_fault : (c : LoadCommand) (files : Option Files) (stored text line bytes : List ℕ) (s : Stop) → IfTold files (λ m. file_in m most_store c.store ≡ Ok stored)
-    → IfTold files (λ m. file_in m most_csv c.csv ≡ Ok text) → Loads c stored text line bytes → IfRefused s (λ r. r ≡ replace_fault) → IfRefused s (IsCause files (Some (load c)))
-load_fault c files stored text line bytes s first second l h =
-    refused-map s (λ r. r ≡ replace_fault) (IsCause files (Some (load c)))
-    (λ r e. record { possible = inr (inr (inr e)); called = inr (inl (e, no_refusal c files l.loaded (told_accepted c files stored text l.loaded first second l.found))) }) h
+-- a refusal over what came
+pub came-refused : {A : Type 0} (files : Option Files) (csv store : File) (command : Option Command) (s : Stop) (x : Result A Refusal)
+    → ((r : Refusal) → x ≡ Err r → refusal_of (came files csv store) command ≡ Some r)
+    → IfRefused s (IsStepRefusal x) → IfRefused s (IsRefused files command)
+came-refused files csv store command s x f h =
+    refused-map s (IsStepRefusal x) (IsRefused files command)
+    (λ r k. record { reading = came files csv store; read = came-read files csv store; called = f r k.called; cause = k.cause }) h
+
+-- a CSV file, or a store, that was not read
+pub csv-unread : (files : Option Files) (name : List ℕ) (store : File) (command : Option Command) (h : Halt)
+    → ((csv : File) (r : Refusal) → (came files csv store).csv name ≡ csv → bytes_of name csv ≡ Err r → refusal_of (came files csv store) command ≡ Some r)
+    → IfStopped h (IsUnread files most_csv name) → IfStopped h (IsRefused files command)
+csv-unread files name store command h f unread =
+    stopped-map h (IsUnread files most_csv name) (IsRefused files command)
+    (λ r k. record {
+      reading = came files k.file store;
+      read = came-read files k.file store;
+      called = f k.file r (came-csv files name k.file store k.told) k.refused.called;
+      cause = k.refused.cause;
+    }) unread
+
+pub store-unread : (files : Option Files) (name : List ℕ) (csv : File) (command : Option Command) (h : Halt)
+    → ((store : File) (r : Refusal) → (came files csv store).store name ≡ store → bytes_of name store ≡ Err r → refusal_of (came files csv store) command ≡ Some r)
+    → IfStopped h (IsUnread files most_store name) → IfStopped h (IsRefused files command)
+store-unread files name csv command h f unread =
+    stopped-map h (IsUnread files most_store name) (IsRefused files command)
+    (λ r k. record {
+      reading = came files csv k.file;
+      read = came-read files csv k.file;
+      called = f k.file r (came-store files name csv k.file k.told) k.refused.called;
+      cause = k.refused.cause;
+    }) unread
+
+-- words that spell no command
+pub no_words : (files : Option Files) (command : Option Command) (s : Stop) → command ≡ None → IfRefused s (λ r. r ≡ usage) → IfRefused s (IsRefused files command)
+no_words files command s none h =
+    refused-map s (λ r. r ≡ usage) (IsRefused files command)
+    (λ r is. record {
+      reading = came files missing missing;
+      read = came-read files missing missing;
+      called = ap (refusal_of (came files missing missing)) none ∙ ap Some (sym is);
+      cause = record { csv = λ e. cc; store = λ e. cc; query = λ e. cc };
+    }) h
+
+-- ---- a command that only reads
+
+pub same-files : (files now : Option Files) → now ≡ files → IfTold files (λ m. now ≡ Some m)
+same-files None now same = tt
+same-files (Some m) now same = same
+
+pub kept-files : (files now : Option Files) (command : Option Command) → now ≡ files → IsKeptOrReplayed files command now
+kept-files None now command same = tt
+kept-files (Some m) now command same = inl same
+
+-- ---- how many files are read
+
+pub rose-none : (n : ℕ) (before now : Option ℕ) → now ≡ before → RoseAtMost n before now
+rose-none n before now same b e = (b, sym same ∙ e, omega arith)
+
+pub rose-once : (n : ℕ) (before now : Option ℕ) → 1 ≤ n → RisesBy 1 before now → RoseAtMost n before now
+rose-once n before now few rises b e = let k = rises b e in (k.0, k.1, omega (arith, k.2))
+
+pub rose-twice : (n : ℕ) (before between now : Option ℕ) → 2 ≤ n → RisesBy 1 before between → RisesBy 1 between now → RoseAtMost n before now
+rose-twice n before between now few first second b e = let k = second b e in let j = first k.0 k.1 in (j.0, j.1, omega (arith, k.2, j.2))
+
+-- ---- a store with room
+
+no_error : (name : List ℕ) (m : StoreValue) (o : Option SeriesErr) → unless_refused (series_fault name) m o ≡ Ok m → o ≡ None
+no_error name m None h = refl
+no_error name m (Some e) h = cc
+
+-- a store with room for a series takes any readings of a column
+pub never_refused : (s : StoreParts) (name : List ℕ) (xs : List ℤ) → room_in (store_value s) name ≡ Ok (store_value s) → length xs ≤ 2 ^ 20 → HasRoom s → add_refusal s name xs ≡ None
+never_refused s name xs found few room = room-is-enough s name xs room few ∙ no_error name (store_value s) (name_refusal (store_value s) name) found

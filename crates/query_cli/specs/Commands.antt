@@ -1,45 +1,23 @@
--- The words of a command line as a command.
-use Rattle.std.specs.Prelude.{ℕ, Bool, true, false, List, [], length, Option, Some, None, Result, Ok, Err, ◌==◌, ◌&&◌, not, nat_le, if◌then◌else◌, slice_index_or, bytes_eq, codes, map, string_bytes, ℤ, unsigned_abs}
-use Rattle.std.specs.declared.string.String.{String}
+-- What each command is, by a line of each table.
+pub mod Check
+pub mod Load
+pub mod New
+pub mod Once
+pub mod Query
+use Rattle.std.specs.Prelude.{◌≡◌, ℕ, Bool, true, false, List, [], ◌∷◌, codes, map, string_bytes, Option, Some, None, option_map, Err, if◌then◌else◌}
+use Rattle.std.specs.Result.{result_err}
 use Rattle.std.specs.declared.alloc.Global.{Global}
-use Rattle.semantics.specs.Names.{is_name}
-use Rattle.semantics.specs.Numbers.{number_in, number_of, are_digits}
-use Rattle.semantics.specs.Term.{QueryTerm}
-use Rattle.expr_parse.specs.declared.error.ParseErr.{ParseErr}
-use Rattle.expr_parse.specs.Parsed.{parsed}
-use Rattle.query_cli.specs.Numbers.{is_of_numbers}
-
--- the interval of the sum of a column over the positions from one up to another, no wider than a budget
-pub record OnceCommand : Type 0 where
-  pub csv : List ℕ
-  pub column : List ℕ
-  pub scale : ℕ
-  pub budget : ℕ
-  pub from : ℤ
-  pub until : ℤ
-
--- an empty store of a scale and a degree in a file
-pub record NewCommand : Type 0 where
-  pub store : List ℕ
-  pub scale : ℕ
-  pub degree : ℕ
-
--- a column as a new series of a store
-pub record LoadCommand : Type 0 where
-  pub store : List ℕ
-  pub name : List ℕ
-  pub csv : List ℕ
-  pub column : List ℕ
-
--- how many series and readings a store has
-pub record CheckCommand : Type 0 where
-  pub store : List ℕ
-
--- the interval of what a query comes to over the series of a store, no wider than a budget; or why its text is no query
-pub record QueryCommand : Type 0 where
-  pub store : List ℕ
-  pub budget : ℕ
-  pub asked : Result QueryTerm ParseErr
+use Rattle.std.specs.declared.string.String.{String}
+use Rattle.semantics.specs.Files.{Files}
+use Rattle.query_cli.specs.Commands.Check.{CheckCommand, CheckAnswers, check_of, checked_by}
+use Rattle.query_cli.specs.Commands.Load.{LoadCommand, LoadAnswers, LoadReplays, files_after_load, load_of, load_reads, loaded_by}
+use Rattle.query_cli.specs.Commands.New.{NewCommand, files_after_new, new_line, new_of}
+use Rattle.query_cli.specs.Commands.Once.{OnceCommand, OnceAnswers, once_of, summed_by}
+use Rattle.query_cli.specs.Commands.Query.{QueryCommand, QueryAnswers, asked_by, query_in, query_of, query_reads}
+use Rattle.query_cli.specs.Reading.{Reading, reading_in}
+use Rattle.query_cli.specs.Refusals.{Refusal, usage}
+use Rattle.query_cli.specs.Replay.{Stands, begins}
+use Rattle.query_cli.specs.Words.{has_form}
 
 pub data Command : Type 0 where
   once : OnceCommand → Command
@@ -48,15 +26,57 @@ pub data Command : Type 0 where
   check : CheckCommand → Command
   query : QueryCommand → Command
 
--- whether a command reads files, and whether it writes one
+-- the command that the words spell
+unfoldable pub command_of : List (List ℕ) → Option Command
+command_of words =
+    if has_form words (codes "once") 7 then option_map once (once_of words)
+    else if has_form words (codes "new") 4 then option_map new_store (new_of words)
+    else if has_form words (codes "load") 5 then option_map load (load_of words)
+    else if has_form words (codes "check") 2 then option_map check (check_of words)
+    else if has_form words (codes "query") 4 then option_map query (query_of words)
+    else None
+
+-- the same, by the words as the program has them
+abbrev pub command_in : List (String Global) → Option Command
+command_in words = command_of (map string_bytes words)
+
+-- the first refusal, where there is one
+abbrev pub refusal_of : Reading → Option Command → Option Refusal
+refusal_of reading None = Some usage
+refusal_of reading (Some (once c)) = result_err (summed_by reading c)
+refusal_of reading (Some (new_store c)) = None
+refusal_of reading (Some (load c)) = result_err (loaded_by reading c)
+refusal_of reading (Some (check c)) = result_err (checked_by reading c)
+refusal_of reading (Some (query c)) = result_err (asked_by reading c)
+
+-- the text of the answer, where nothing is refused
+abbrev pub Answers : Reading → Option Command → List ℕ → Type 0
+Answers reading None text = ⊥
+Answers reading (Some (once c)) text = OnceAnswers reading c text
+Answers reading (Some (new_store c)) text = text ≡ new_line
+Answers reading (Some (load c)) text = LoadAnswers reading c text
+Answers reading (Some (check c)) text = CheckAnswers reading c text
+Answers reading (Some (query c)) text = QueryAnswers reading c text
+
+-- whether files are read
 abbrev pub is_reader : Option Command → Bool
 is_reader None = false
 is_reader (Some (once c)) = true
 is_reader (Some (new_store c)) = false
 is_reader (Some (load c)) = true
 is_reader (Some (check c)) = true
-is_reader (Some (query c)) = true
+is_reader (Some (query c)) = query_reads c
 
+-- how many files are read: none behind the first refusal
+abbrev pub reads_of : Reading → Option Command → ℕ
+reads_of reading None = 0
+reads_of reading (Some (once c)) = 1
+reads_of reading (Some (new_store c)) = 0
+reads_of reading (Some (load c)) = load_reads reading c
+reads_of reading (Some (check c)) = 1
+reads_of reading (Some (query c)) = if query_reads c then 1 else 0
+
+-- whether a file is written
 abbrev pub is_writer : Option Command → Bool
 is_writer None = false
 is_writer (Some (once c)) = false
@@ -65,105 +85,30 @@ is_writer (Some (load c)) = true
 is_writer (Some (check c)) = false
 is_writer (Some (query c)) = false
 
-abbrev pub most_scale : ℕ
-most_scale = 6
+-- what becomes of the files; a command that is refused leaves them
+abbrev pub files_after : Files → Option Command → Files
+files_after files None = files
+files_after files (Some (once c)) = files
+files_after files (Some (new_store c)) = files_after_new files c
+files_after files (Some (load c)) = files_after_load files c (loaded_by (reading_in files) c)
+files_after files (Some (check c)) = files
+files_after files (Some (query c)) = files
 
-abbrev pub most_degree : ℕ
-most_degree = 2
+-- what becomes of the store for which STORE stood, and of its history, once STORE is written
+abbrev pub IsReplayed : Files → Option Command → Option Files → Type 0
+IsReplayed old None now = ⊥
+IsReplayed old (Some (once c)) now = ⊥
+-- whatever stood there
+IsReplayed old (Some (new_store c)) now = Stands old c.store (begins c.scale c.degree ∷ []) now
+IsReplayed old (Some (load c)) now = LoadReplays old c now
+IsReplayed old (Some (check c)) now = ⊥
+IsReplayed old (Some (query c)) now = ⊥
 
--- 2^127 - 1
-abbrev pub most_budget : ℕ
-most_budget = 170141183460469231731687303715884105727
-
--- 2^40
-abbrev pub most_position : ℕ
-most_position = 1099511627776
-
--- digits of value at most so much
-abbrev pub digits_up_to : ℕ → List ℕ → Option ℕ
-digits_up_to most text = if are_digits text && nat_le (number_of text) most then Some (number_of text) else None
-
--- one digit, of value at most so much
-abbrev pub digit_up_to : ℕ → List ℕ → Option ℕ
-digit_up_to most text = if length text == 1 then digits_up_to most text else None
-
--- a number, where its magnitude is at most so much
-abbrev pub near_zero : ℕ → Option ℤ → Option ℤ
-near_zero most None = None
-near_zero most (Some z) = if nat_le (unsigned_abs z) most then Some z else None
-
--- a number of magnitude at most so much
-abbrev pub whole_up_to : ℕ → List ℕ → Option ℤ
-whole_up_to most text = near_zero most (number_in text)
-
-abbrev pub word : List (List ℕ) → ℕ → List ℕ
-word words i = slice_index_or words i []
-
--- so many words, of which the first names the command
-abbrev pub has_form : List (List ℕ) → List ℕ → ℕ → Bool
-has_form words name count = (length words == count) && bytes_eq (word words 0) name
-
--- a file word isn't empty
-abbrev pub is_file : List ℕ → Bool
-is_file text = not (length text == 0)
-
--- the numbers of `once`, where each is one
-abbrev pub with_numbers : List ℕ → List ℕ → Option ℕ → Option ℕ → Option ℤ → Option ℤ → Option Command
-with_numbers csv column (Some scale) (Some budget) (Some from) (Some until) =
-    Some (once (record { csv = csv; column = column; scale = scale; budget = budget; from = from; until = until }))
-with_numbers csv column (Some scale) (Some budget) (Some from) None = None
-with_numbers csv column (Some scale) (Some budget) None until = None
-with_numbers csv column (Some scale) None from until = None
-with_numbers csv column None budget from until = None
-
--- `once CSV COLUMN SCALE BUDGET L R`
-abbrev pub once_of : List (List ℕ) → Option Command
-once_of words =
-    if is_file (word words 1) then
-    with_numbers (word words 1) (word words 2) (digit_up_to most_scale (word words 3)) (digits_up_to most_budget (word words 4)) (whole_up_to most_position (word words 5)) (whole_up_to most_position (word words 6))
-    else None
-
--- the digits of `new`, where each is one
-abbrev pub with_digits : List ℕ → Option ℕ → Option ℕ → Option Command
-with_digits store (Some scale) (Some degree) = Some (new_store (record { store = store; scale = scale; degree = degree }))
-with_digits store (Some scale) None = None
-with_digits store None degree = None
-
--- `new STORE SCALE DEGREE`
-abbrev pub new_of : List (List ℕ) → Option Command
-new_of words = if is_file (word words 1) then with_digits (word words 1) (digit_up_to most_scale (word words 2)) (digit_up_to most_degree (word words 3)) else None
-
--- `load STORE NAME CSV COLUMN`
-abbrev pub load_of : List (List ℕ) → Option Command
-load_of words =
-    if is_file (word words 1) && is_name (word words 2) && is_file (word words 3) then
-    Some (load (record { store = word words 1; name = word words 2; csv = word words 3; column = word words 4 }))
-    else None
-
--- `check STORE`
-abbrev pub check_of : List (List ℕ) → Option Command
-check_of words = if is_file (word words 1) then Some (check (record { store = word words 1 })) else None
-
--- a query of a text is one over numbers alone
-abbrev pub with_query : List ℕ → Option ℕ → Result QueryTerm ParseErr → Option Command
-with_query store None asked = None
-with_query store (Some budget) (Err e) = Some (query (record { store = store; budget = budget; asked = Err e }))
-with_query store (Some budget) (Ok q) = if is_of_numbers q then Some (query (record { store = store; budget = budget; asked = Ok q })) else None
-
--- `query STORE BUDGET QUERY`
-abbrev pub query_of : List (List ℕ) → Option Command
-query_of words = if is_file (word words 1) then with_query (word words 1) (digits_up_to most_budget (word words 2)) (parsed (word words 3)) else None
-
--- the command that the words spell
-unfoldable pub command_of : List (List ℕ) → Option Command
-command_of words =
-    if has_form words (codes "once") 7 then once_of words
-    else if has_form words (codes "new") 4 then new_of words
-    else if has_form words (codes "load") 5 then load_of words
-    else if has_form words (codes "check") 2 then check_of words
-    else if has_form words (codes "query") 4 then query_of words
-    else None
-
--- the same, by the words as the program has them
-abbrev pub command_in : List (String Global) → Option Command
-command_in words = command_of (map string_bytes words)
+-- a command whose answer is `usage fault`: words that spell none, and a query with a sum
+abbrev pub IsUsage : Option Command → Type 0
+IsUsage None = Unit {0}
+IsUsage (Some (once c)) = ⊥
+IsUsage (Some (new_store c)) = ⊥
+IsUsage (Some (load c)) = ⊥
+IsUsage (Some (check c)) = ⊥
+IsUsage (Some (query c)) = query_in c.text ≡ Err usage

@@ -1,22 +1,20 @@
--- Why a command is refused, with what its line names.
-use Rattle.std.specs.Prelude.{◌≡◌, ◌≢◌, ◌⊎◌, ℕ, List, Option, Some, None, ℤ, pos}
-use Rattle.series_csv.specs.declared.fault.CsvErr.{CsvErr}
-use Rattle.series_csv.specs.declared.fault.CsvErr.TheVariants as csv
-use Rattle.store_file.specs.declared.decoding.StoreErr.{StoreErr}
-use Rattle.store_file.specs.declared.decoding.StoreErr.TheVariants as stored
-use Rattle.store_file.specs.declared.adding.SeriesErr.{SeriesErr}
-use Rattle.store_file.specs.declared.adding.SeriesErr.TheVariants as series
-use Rattle.semantics.specs.Admission as admission
-use Rattle.expr_parse.specs.declared.error.ParseErr.{ParseErr}
+-- Why a command is refused, and the line of each refusal.
 use Rattle.expr_parse.specs.declared.error.ParseErr.TheVariants as text
-use Rattle.query_cli.specs.Commands.{Command, once, new_store, load, check, query}
-use Rattle.query_cli.specs.declared.status.Status.{Status}
+use Rattle.expr_parse.specs.declared.error.ParseErr.{ParseErr}
 use Rattle.query_cli.specs.declared.status.Status.TheVariants as status
+use Rattle.query_cli.specs.declared.status.Status.{Status}
+use Rattle.semantics.specs.Admission as admission
+use Rattle.series_csv.specs.declared.fault.CsvErr.TheVariants as csv
+use Rattle.series_csv.specs.declared.fault.CsvErr.{CsvErr}
+use Rattle.std.specs.Fmt.{decimal, signed_decimal}
+use Rattle.std.specs.Prelude.{ℕ, List, Option, Some, None, ℤ, [], ◌++◌, codes}
+use Rattle.store_file.specs.declared.adding.SeriesErr.TheVariants as series
+use Rattle.store_file.specs.declared.adding.SeriesErr.{SeriesErr}
+use Rattle.store_file.specs.declared.decoding.StoreErr.TheVariants as stored
+use Rattle.store_file.specs.declared.decoding.StoreErr.{StoreErr}
 
 pub data Refusal : Type 0 where
   usage : Refusal
-  read_fault : Refusal
-  replace_fault : Refusal
   absent : List ℕ → Refusal
   too_big : List ℕ → Refusal
   bad_csv : CsvErr → Refusal
@@ -31,8 +29,6 @@ pub data Refusal : Type 0 where
 
 abbrev pub status_of : Refusal → Status
 status_of usage = status.Usage
-status_of read_fault = status.ReadFault
-status_of replace_fault = status.ReplaceFault
 status_of (absent name) = status.Absent
 status_of (too_big name) = status.TooBig
 status_of (bad_csv e) = status.BadCsv
@@ -57,51 +53,54 @@ abbrev pub called_for : Option Refusal → Status
 called_for None = status.Ok
 called_for (Some r) = status_of r
 
--- what a step may refuse, whatever the files hold: reading the file of a name
-abbrev pub IsOfFile : List ℕ → Refusal → Type 0
-IsOfFile name r = (r ≡ read_fault) ⊎ ((r ≡ absent name) ⊎ (r ≡ too_big name))
+-- the first refusal of a column; want of memory has no line
+abbrev pub csv_line : CsvErr → List ℕ
+csv_line csv.NoHeader = codes "csv no header\n"
+csv_line csv.NoColumn = codes "csv no column\n"
+csv_line (csv.Short k) = codes "csv short " ++ decimal k ++ codes "\n"
+csv_line (csv.Bad k) = codes "csv bad " ++ decimal k ++ codes "\n"
+csv_line (csv.TooLarge k) = codes "csv too large " ++ decimal k ++ codes "\n"
+csv_line (csv.MissingFirst k) = codes "csv missing first " ++ decimal k ++ codes "\n"
+csv_line (csv.TooLong k) = codes "csv too long " ++ decimal k ++ codes "\n"
+csv_line csv.Memory = []
 
--- reading bytes as a store
-abbrev pub IsOfStore : Refusal → Type 0
-IsOfStore r = (e : StoreErr) × (e ≢ stored.Memory) × (r ≡ bad_store e)
+-- the first refusal of a store's bytes; want of memory has no line
+abbrev pub store_line : StoreErr → List ℕ
+store_line (stored.NotAStore place) = codes "store bad header " ++ decimal place ++ codes "\n"
+store_line (stored.BadNode name start len) =
+    codes "store bad node " ++ name ++ codes " " ++ decimal start ++ codes " " ++ decimal len ++ codes "\n"
+store_line stored.Memory = []
 
--- finding room for a series of a name
-abbrev pub IsOfRoom : List ℕ → Refusal → Type 0
-IsOfRoom name r = (r ≡ series_fault name series.Exists) ⊎ (r ≡ series_fault name series.TooMany)
+-- why a series of a name is refused; a full arena and want of memory have no line here
+abbrev pub series_line : List ℕ → SeriesErr → List ℕ
+series_line name series.Exists = codes "series exists " ++ name ++ codes "\n"
+series_line name series.TooMany = codes "series too many\n"
+series_line name series.Unknown = codes "series unknown " ++ name ++ codes "\n"
+series_line name series.TooLong = codes "series too long " ++ name ++ codes "\n"
+series_line name series.ArenaFull = []
+series_line name series.Memory = []
 
--- reading a column
-abbrev pub IsOfColumn : Refusal → Type 0
-IsOfColumn r = (e : CsvErr) × (e ≢ csv.Memory) × (r ≡ bad_csv e)
+-- why a text is no query; want of memory has no line
+abbrev pub query_line : ParseErr → List ℕ
+query_line (text.At place) = codes "query at " ++ decimal place ++ codes "\n"
+query_line text.TooLong = codes "query too long\n"
+query_line text.TooDeep = codes "query too deep\n"
+query_line text.TooManySums = codes "query too many sums\n"
+query_line text.TooManyNames = codes "query too many names\n"
+query_line text.Memory = []
 
--- a range that isn't within the readings of the one sum
-abbrev pub IsOfRange : Refusal → Type 0
-IsOfRange r = (hi : ℤ) × (r ≡ domain 1 (pos 0) hi)
-
--- reading a column and taking a range of it
-abbrev pub IsOfSummed : Refusal → Type 0
-IsOfSummed r = IsOfColumn r ⊎ IsOfRange r
-
--- reading a store, finding room in it and reading a column
-abbrev pub IsOfLoaded : List ℕ → Refusal → Type 0
-IsOfLoaded name r = IsOfStore r ⊎ (IsOfRoom name r ⊎ IsOfColumn r)
-
--- reading a text as a query
-abbrev pub IsOfText : Refusal → Type 0
-IsOfText r = (e : ParseErr) × (e ≢ text.Memory) × (r ≡ bad_query e)
-
--- admitting a query
-abbrev pub IsOfAdmission : Refusal → Type 0
-IsOfAdmission r = (e : admission.NotAdmitted) × (r ≡ query_refusal e)
-
--- reading a store and admitting a query over it
-abbrev pub IsOfAsked : Refusal → Type 0
-IsOfAsked r = (r ≡ store_fault) ⊎ IsOfAdmission r
-
--- what a command may be refused for, whatever the files hold, in the order of its steps
-abbrev pub MayRefuse : Option Command → Refusal → Type 0
-MayRefuse None r = r ≡ usage
-MayRefuse (Some (once c)) r = IsOfFile c.csv r ⊎ IsOfSummed r
-MayRefuse (Some (new_store c)) r = r ≡ replace_fault
-MayRefuse (Some (load c)) r = IsOfFile c.store r ⊎ (IsOfFile c.csv r ⊎ (IsOfLoaded c.name r ⊎ (r ≡ replace_fault)))
-MayRefuse (Some (check c)) r = IsOfFile c.store r ⊎ IsOfStore r
-MayRefuse (Some (query c)) r = IsOfText r ⊎ (IsOfFile c.store r ⊎ IsOfAsked r)
+-- the line of a refusal
+abbrev pub line_of : Refusal → List ℕ
+line_of usage = codes "usage fault\n"
+line_of (absent name) = codes "absent " ++ name ++ codes "\n"
+line_of (too_big name) = codes "too big " ++ name ++ codes "\n"
+line_of (bad_csv e) = csv_line e
+line_of (bad_store e) = store_line e
+line_of (series_fault name e) = series_line name e
+line_of (domain sum lo hi) =
+    codes "domain " ++ decimal sum ++ codes " " ++ signed_decimal lo ++ codes " " ++ signed_decimal hi ++ codes "\n"
+line_of (bad_query e) = query_line e
+line_of store_fault = codes "store fault\n"
+line_of (query_unknown name) = codes "query unknown " ++ name ++ codes "\n"
+line_of (query_rank sum) = codes "query rank " ++ decimal sum ++ codes "\n"
+line_of (range node) = codes "range " ++ decimal node ++ codes "\n"

@@ -1,10 +1,11 @@
 -- What a store file stands for after the commands that were accepted.
-use Rattle.std.specs.Prelude.{◌≡◌, ℕ, ◌≤◌, ℤ, List, [], ◌∷◌, ◌++◌, Option, Some, None, Ok}
+use Rattle.semantics.specs.Most.{most_scale}
+use Rattle.query_cli.specs.Words.{most_degree}
 use Rattle.semantics.specs.Files.{Files, file_of, with_file}
 use Rattle.series_csv.specs.Column.{column_of}
+use Rattle.std.specs.Prelude.{◌≡◌, ℕ, ◌≤◌, ℤ, List, [], ◌∷◌, ◌++◌, Option, Some, None, Ok}
 use Rattle.store_file.specs.Added.{IsAddable, with_series}
 use Rattle.store_file.specs.StoreValue.{StoreValue, IsStoreValue, store_image}
-use Rattle.query_cli.specs.Commands.{Command, LoadCommand, once, new_store, load, check, query, most_scale, most_degree}
 
 -- an accepted command, with what it brings: a new store of a scale and a degree; a series with its readings
 pub data Accepted : Type 0 where
@@ -54,22 +55,6 @@ pub record IsColumnOf (files : Files) (csv column : List ℕ) (scale : ℕ) (xs 
   pub bytes : List ℕ
   pub held : file_of files csv ≡ Some bytes
   pub readings : column_of bytes column scale None ≡ Ok xs
-
--- STORE stands for a history with the readings of the column behind it
-pub record AddsColumn (old : Files) (c : LoadCommand) (h : List Accepted) (now : Option Files) : Type 0 where
-  pub readings : List ℤ
-  pub column : IsColumnOf old c.csv c.column (replay h).scale readings
-  pub stands : Stands old c.store (h ++ adds c.name readings ∷ []) now
-
--- what an accepted command makes of the history for which its store file stands
-abbrev pub IsReplayed : Files → Option Command → Option Files → Type 0
-IsReplayed old None now = Unit {0}
-IsReplayed old (Some (once c)) now = Unit {0}
--- whatever stood there
-IsReplayed old (Some (new_store c)) now = Stands old c.store (begins c.scale c.degree ∷ []) now
-IsReplayed old (Some (load c)) now = (h : List Accepted) → IsHistory h → file_of old c.store ≡ Some (store_image (replay h)) → AddsColumn old c h now
-IsReplayed old (Some (check c)) now = Unit {0}
-IsReplayed old (Some (query c)) now = Unit {0}
 
 -- every history makes a store
 abbrev pub HistoriesMakeStores : Type 0

@@ -1,11 +1,18 @@
 -- The steps of which commands are made: what each finds, or its refusal.
-use Rattle.std.specs.Prelude.{ℕ, List, length, Option, Some, None, Result, Ok, Err, nat_lt, if◌then◌else◌, ℤ}
-use Rattle.semantics.specs.Files.{Files, file_of}
+use Rattle.std.specs.Fmt.{decimal, signed_decimal}
+use Rattle.std.specs.Prelude.{◌≡◌, ℕ, List, Option, Some, None, ℤ, pos, ◌++◌, codes, Result, Ok, Err, ◌≤◌, ◌-ℤ◌, ◌≤ℤ◌}
 use Rattle.series_csv.specs.Column.{column_of}
 use Rattle.store_file.specs.Added.{name_refusal}
 use Rattle.store_file.specs.Decoded.{decode_of}
 use Rattle.store_file.specs.StoreValue.{StoreValue}
-use Rattle.query_cli.specs.Refusals.{Refusal, absent, too_big, bad_csv, bad_store, series_fault}
+use Rattle.query_cli.specs.Reading.{File, Reading, held, missing, oversized}
+use Rattle.query_cli.specs.Refusals.{Refusal, absent, too_big, bad_csv, bad_store, series_fault, store_fault}
+
+-- `LO HI WIDTH NODES OPENED`
+abbrev pub answer_line : ℤ → ℤ → ℕ → ℕ → ℕ → List ℕ
+answer_line lo hi width nodes opened =
+    signed_decimal lo ++ codes " " ++ signed_decimal hi ++ codes " " ++ decimal width ++ codes " " ++ decimal nodes
+    ++ codes " " ++ decimal opened ++ codes "\n"
 
 -- one step behind another, whose refusal comes first
 abbrev pub and_then : {A B : Type 0} → Result A Refusal → (A → Result B Refusal) → Result B Refusal
@@ -22,21 +29,17 @@ abbrev pub unless_refused : {A E : Type 0} → (E → Refusal) → A → Option 
 unless_refused refusal a None = Ok a
 unless_refused refusal a (Some e) = Err (refusal e)
 
--- the most bytes of a CSV file, 2^26
-abbrev pub most_csv : ℕ
-most_csv = 67108864
+-- the bytes of a file, or why there are none
+abbrev pub bytes_of : List ℕ → File → Result (List ℕ) Refusal
+bytes_of name (held bytes) = Ok bytes
+bytes_of name missing = Err (absent name)
+bytes_of name oversized = Err (too_big name)
 
--- the most bytes of a store, 2^28
-abbrev pub most_store : ℕ
-most_store = 268435456
+abbrev pub csv_bytes : Reading → List ℕ → Result (List ℕ) Refusal
+csv_bytes reading name = bytes_of name (reading.csv name)
 
-abbrev pub bytes_within : ℕ → List ℕ → Option (List ℕ) → Result (List ℕ) Refusal
-bytes_within most name None = Err (absent name)
-bytes_within most name (Some bytes) = if nat_lt most (length bytes) then Err (too_big name) else Ok bytes
-
--- the bytes of a file, which are at most so many
-abbrev pub file_in : Files → ℕ → List ℕ → Result (List ℕ) Refusal
-file_in files most name = bytes_within most name (file_of files name)
+abbrev pub store_bytes : Reading → List ℕ → Result (List ℕ) Refusal
+store_bytes reading name = bytes_of name (reading.store name)
 
 -- the store for which bytes stand
 abbrev pub store_in : List ℕ → Result StoreValue Refusal
@@ -46,6 +49,23 @@ store_in bytes = refused_as bad_store (decode_of bytes)
 abbrev pub room_in : StoreValue → List ℕ → Result StoreValue Refusal
 room_in m name = unless_refused (series_fault name) m (name_refusal m name)
 
+-- the same, where no place of a fault is told
+abbrev pub known_store_in : List ℕ → Result StoreValue Refusal
+known_store_in bytes = refused_as (λ e. store_fault) (decode_of bytes)
+
 -- the readings of a column, with no reading before
 abbrev pub column_in : List ℕ → List ℕ → ℕ → Result (List ℤ) Refusal
 column_in bytes column scale = refused_as bad_csv (column_of bytes column scale None)
+
+-- the line of an interval that holds a value and is no wider than a budget
+pub record IsIntervalLine (value : ℤ) (budget : ℕ) (text : List ℕ) : Type 0 where
+  pub low : ℤ
+  pub high : ℤ
+  pub width : ℕ
+  pub nodes : ℕ
+  pub opened : ℕ
+  pub line : text ≡ answer_line low high width nodes opened
+  pub above : low ≤ℤ value
+  pub below : value ≤ℤ high
+  pub wide : pos width ≡ (high -ℤ low)
+  pub within : width ≤ budget

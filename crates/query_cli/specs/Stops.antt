@@ -1,14 +1,39 @@
 -- Why a command stops before its answer.
-use Rattle.std.specs.Prelude.{◌≡◌, ◌⊎◌, ℕ, List, Option, Result, Err, string_bytes}
+use Rattle.std.specs.Prelude.{◌≡◌, ◌≢◌, ℕ, List, codes, Option, Result, Err, string_bytes}
 use Rattle.semantics.specs.Files.{Files, IfTold}
-use Rattle.query_cli.specs.Lines.{line_of}
-use Rattle.query_cli.specs.Refusals.{Refusal, read_fault, status_of, IsOfFile}
-use Rattle.query_cli.specs.Steps.{file_in}
-use Rattle.query_cli.specs.declared.refusal.Reply.{Reply}
-use Rattle.query_cli.specs.declared.refusal.Stop.{Stop}
-use Rattle.query_cli.specs.declared.refusal.Stop.TheVariants as stop
+use Rattle.expr_parse.specs.declared.error.ParseErr.TheVariants as text
+use Rattle.series_csv.specs.declared.fault.CsvErr.TheVariants as csv
+use Rattle.store_file.specs.declared.decoding.StoreErr.TheVariants as stored
+use Rattle.query_cli.specs.Reading.{File, file_at}
+use Rattle.query_cli.specs.Refusals.{Refusal, bad_csv, bad_query, bad_store, line_of, status_of}
+use Rattle.query_cli.specs.Steps.{bytes_of}
+use Rattle.query_cli.specs.declared.stop.Fault.{Fault}
+use Rattle.query_cli.specs.declared.stop.Fault.TheVariants as fault
+use Rattle.query_cli.specs.declared.stop.Halt.{Halt}
+use Rattle.query_cli.specs.declared.stop.Halt.TheVariants as halt
+use Rattle.query_cli.specs.declared.stop.Reply.{Reply}
+use Rattle.query_cli.specs.declared.stop.Stop.{Stop}
+use Rattle.query_cli.specs.declared.stop.Stop.TheVariants as stop
 use Rattle.query_cli.specs.declared.status.Status.{Status}
 use Rattle.query_cli.specs.declared.status.Status.TheVariants as status
+
+-- ---- faults
+
+abbrev pub fault_status : Fault → Status
+fault_status fault.Reading = status.ReadFault
+fault_status fault.Replacing = status.ReplaceFault
+
+abbrev pub fault_line : Fault → List ℕ
+fault_line fault.Reading = codes "read fault\n"
+fault_line fault.Replacing = codes "replace fault\n"
+
+-- ---- refusals
+
+-- a refusal, for which want of memory never stands
+pub record HasCause (r : Refusal) : Type 0 where
+  pub csv : r ≢ bad_csv csv.Memory
+  pub store : r ≢ bad_store stored.Memory
+  pub query : r ≢ bad_query text.Memory
 
 -- the reply of a refusal has its status and its line
 pub record IsReplyOf (r : Refusal) (reply : Reply) : Type 0 where
@@ -20,16 +45,18 @@ abbrev pub IfRefused : Stop → (Refusal → Type 0) → Type 0
 IfRefused stop.Memory P = Unit {0}
 IfRefused (stop.Refused reply) P = (r : Refusal) × P r × IsReplyOf r reply
 
-abbrev pub stop_status : Stop → Status
-stop_status stop.Memory = status.Memory
-stop_status (stop.Refused reply) = reply.status
+-- the same of a command, which may also meet a fault
+abbrev pub IfStopped : Halt → (Refusal → Type 0) → Type 0
+IfStopped (halt.Faulted f) P = Unit {0}
+IfStopped (halt.Stopped s) P = IfRefused s P
 
 -- the refusal of a step
-pub record IsStepRefusal {A : Type 0} (Possible : Refusal → Type 0) (found : Result A Refusal) (r : Refusal) : Type 0 where
-  pub possible : Possible r
+pub record IsStepRefusal {A : Type 0} (found : Result A Refusal) (r : Refusal) : Type 0 where
   pub called : found ≡ Err r
+  pub cause : HasCause r
 
 -- why a file of this name, of at most so many bytes, was not read
 pub record IsUnread (files : Option Files) (most : ℕ) (name : List ℕ) (r : Refusal) : Type 0 where
-  pub possible : IsOfFile name r
-  pub called : (r ≡ read_fault) ⊎ IfTold files (λ m. file_in m most name ≡ Err r)
+  pub file : File
+  pub told : IfTold files (λ m. file_at m most name ≡ file)
+  pub refused : IsStepRefusal (bytes_of name file) r

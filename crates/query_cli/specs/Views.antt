@@ -1,23 +1,24 @@
 -- Commands and refusals without where their words lie.
-use Rattle.query_cli.specs.Commands.{Command, OnceCommand, NewCommand, LoadCommand, CheckCommand, QueryCommand, once, new_store, load, check, query}
-use Rattle.query_cli.specs.Refusals.{Refusal, usage, read_fault, replace_fault, absent, too_big, bad_csv, bad_store, series_fault, domain, bad_query, store_fault, range}
-use Rattle.query_cli.specs.declared.command.Command.{Command as CommandCode}
-use Rattle.query_cli.specs.declared.command.Command.TheVariants as command
-use Rattle.query_cli.specs.declared.command.Once.{Once}
-use Rattle.query_cli.specs.declared.command.New.{New}
-use Rattle.query_cli.specs.declared.command.Load.{Load}
-use Rattle.query_cli.specs.declared.command.Check.{Check}
-use Rattle.query_cli.specs.declared.command.Query.{Query}
-use Rattle.std.specs.Prelude.{Result, Ok, Err}
-use Rattle.semantics.specs.Term.{QueryTerm}
-use Rattle.expr.specs.declared.expression.Query.{Query as QueryTree}
-use Rattle.expr_parse.specs.declared.error.ParseErr.{ParseErr}
-use Rattle.expr.specs.Terms.{query_term_of}
-use Rattle.query_cli.specs.declared.refusal.Refusal.{Refusal as RefusalCode}
-use Rattle.query_cli.specs.declared.refusal.Refusal.TheVariants as refusal
+use Rattle.query_cli.specs.Commands.{Command, once, new_store, load, check, query}
+use Rattle.query_cli.specs.Commands.Once.{OnceCommand}
+use Rattle.query_cli.specs.Commands.New.{NewCommand}
+use Rattle.query_cli.specs.Commands.Load.{LoadCommand}
+use Rattle.query_cli.specs.Commands.Check.{CheckCommand}
+use Rattle.query_cli.specs.Commands.Query.{QueryCommand}
+use Rattle.query_cli.specs.Refusals.{Refusal, usage, absent, too_big, bad_csv, bad_store, series_fault, domain, bad_query, store_fault, range}
+use Rattle.query_cli.specs.declared.commands.Command.{Command as CommandCode}
+use Rattle.query_cli.specs.declared.commands.Command.TheVariants as command
+use Rattle.query_cli.specs.declared.commands.once.Once.{Once}
+use Rattle.query_cli.specs.declared.commands.new.New.{New}
+use Rattle.query_cli.specs.declared.commands.load.Load.{Load}
+use Rattle.query_cli.specs.declared.commands.check.Check.{Check}
+use Rattle.query_cli.specs.declared.commands.query.Query.{Query}
+use Rattle.query_cli.specs.declared.refusals.Refusal.{Refusal as RefusalCode}
+use Rattle.query_cli.specs.declared.refusals.Refusal.TheVariants as refusal
 
 abbrev pub once_view : Once → OnceCommand
-once_view o = record { csv = o.csv.now; column = o.column.now; scale = o.scale; budget = o.budget; from = o.from; until = o.until }
+once_view o =
+    record { csv = o.csv.now; column = o.column.now; scale = o.scale; budget = o.budget; from = o.from; until = o.until }
 
 abbrev pub new_view : New → NewCommand
 new_view n = record { store = n.store.now; scale = n.scale; degree = n.degree }
@@ -28,12 +29,8 @@ load_view l = record { store = l.store.now; name = l.name; csv = l.csv.now; colu
 abbrev pub check_view : Check → CheckCommand
 check_view c = record { store = c.store.now }
 
-abbrev pub asked_view : Result QueryTree ParseErr → Result QueryTerm ParseErr
-asked_view (Ok q) = Ok (query_term_of q)
-asked_view (Err e) = Err e
-
 abbrev pub query_view : Query → QueryCommand
-query_view q = record { store = q.store.now; budget = q.budget; asked = asked_view q.asked }
+query_view q = record { store = q.store.now; budget = q.budget; text = q.text.now }
 
 abbrev pub command_view : CommandCode → Command
 command_view (command.Once o) = once (once_view o)
@@ -44,8 +41,6 @@ command_view (command.Query q) = query (query_view q)
 
 abbrev pub refusal_view : RefusalCode → Refusal
 refusal_view refusal.Usage = usage
-refusal_view refusal.ReadFault = read_fault
-refusal_view refusal.ReplaceFault = replace_fault
 refusal_view (refusal.Absent name) = absent name.now
 refusal_view (refusal.TooBig name) = too_big name.now
 refusal_view (refusal.BadCsv e) = bad_csv e

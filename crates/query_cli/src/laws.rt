@@ -1,6 +1,6 @@
 // What holds of all stores and histories.
 
-ghost use Rattle.query_cli.specs.Checks.{OnlyStoresAreAccepted, StoresAreAccepted};
+ghost use Rattle.query_cli.specs.Laws.{OnlyStoresAreAccepted, StoresAreAccepted};
 ghost use Rattle.query_cli.specs.Replay.{HistoriesGoOn, HistoriesMakeStores};
 
 /// Every history makes a store, and goes on with each command that its store accepts.

@@ -1,25 +1,19 @@
-// The words of a command line.
+ghost use Rattle.query_cli.specs.Words.{has_form, is_file, word, digit_up_to, digits_up_to, whole_up_to};
+ghost use Rattle.std.specs.Prelude.{◌≡◌, ◌<◌, length, map, string_bytes, ◌≤◌, ◌^◌, IfSome};
 
-ghost use Rattle.std.specs.Prelude.{◌≡◌, ◌<◌, IfOk, length, map, option_map, string_bytes};
-ghost use Rattle.query_cli.specs.Commands.{check_of, command_in, has_form, is_file, load_of, new_of, once_of, query_of, word};
-ghost use Rattle.query_cli.specs.Views.{command_view};
-
-use crate::command::{Check, Command, Load, New, Once, Query};
-use crate::number::{read_digit, read_digits, read_whole};
-use crate::numbers::is_of_numbers;
 use expr::Name;
-use expr_parse::{ParseErr, parse};
-use std::alloc::{AllocError, Global};
+use num_text::read_i128;
+use std::str;
 
-const MOST_SCALE: u8 = 6;
+pub(crate) const MOST_SCALE: u8 = 6;
 
-const MOST_DEGREE: u8 = 2;
+pub(crate) const MOST_DEGREE: u8 = 2;
 
-const MOST_BUDGET: u128 = (1 << 127) - 1;
+pub(crate) const MOST_BUDGET: u128 = (1 << 127) - 1;
 
-const MOST_POSITION: u64 = 1 << 40;
+pub(crate) const MOST_POSITION: u64 = 1 << 40;
 
-fn word_at(words: &[String], i: usize) -> &str
+pub(crate) fn word_at(words: &[String], i: usize) -> &str
     requires { i < length words.now }
     ensures { result.now ≡ word (map string_bytes words.now) i }
 {
@@ -27,7 +21,7 @@ fn word_at(words: &[String], i: usize) -> &str
 }
 
 // Whether there are so many words, of which the first is the command's name.
-fn is_form(words: &[String], name: &str, count: usize) -> bool
+pub(crate) fn is_form(words: &[String], name: &str, count: usize) -> bool
     requires { 0 < count }
     ensures { result ≡ has_form (map string_bytes words.now) name.now count }
 {
@@ -35,151 +29,56 @@ fn is_form(words: &[String], name: &str, count: usize) -> bool
 }
 
 // A file word isn't empty.
-fn is_file_word(word: &str) -> bool
+pub(crate) fn is_file_word(word: &str) -> bool
     ensures { result ≡ is_file word.now }
 {
     !word.is_empty()
 }
 
-fn read_once(words: &[String]) -> Option<Command<'_>>
-    requires { length words.now ≡ 7 }
-    ensures { option_map command_view result ≡ once_of (map string_bytes words.now) }
+/// Digits of value at most so much.
+pub(crate) fn read_digits(text: &[u8], most: u128) -> Option<u128>
+    requires { most < 2 ^ 127 }
+    ensures value { result ≡ digits_up_to most text.now }
+    ensures bound { IfSome result (λ n. n ≤ most) }
 {
-    if !is_file_word(word_at(words, 1)) {
+    if text.first() == Some(&b'-') {
         return None;
     }
-    let Some(scale) = read_digit(word_at(words, 3).as_bytes(), MOST_SCALE) else {
-        return None;
-    };
-    let Some(budget) = read_digits(word_at(words, 4).as_bytes(), MOST_BUDGET) else {
-        return None;
-    };
-    let Some(from) = read_whole(word_at(words, 5).as_bytes(), MOST_POSITION) else {
-        return None;
-    };
-    let Some(until) = read_whole(word_at(words, 6).as_bytes(), MOST_POSITION) else {
-        return None;
-    };
-    Some(Command::Once(Once {
-        csv: word_at(words, 1),
-        column: word_at(words, 2),
-        scale,
-        budget,
-        from,
-        until,
-    }))
+    let n = read_i128(text)?.unsigned_abs();
+    if n <= most { Some(n) } else { None }
 }
 
-fn read_new(words: &[String]) -> Option<Command<'_>>
-    requires { length words.now ≡ 4 }
-    ensures { option_map command_view result ≡ new_of (map string_bytes words.now) }
+/// One digit, of value at most so much.
+pub(crate) fn read_digit(text: &[u8], most: u8) -> Option<u8>
+    ensures value { result ≡ digit_up_to most text.now }
+    ensures bound { IfSome result (λ n. n ≤ most) }
 {
-    if !is_file_word(word_at(words, 1)) {
+    if text.len() != 1 {
         return None;
     }
-    let Some(scale) = read_digit(word_at(words, 2).as_bytes(), MOST_SCALE) else {
-        return None;
-    };
-    let Some(degree) = read_digit(word_at(words, 3).as_bytes(), MOST_DEGREE) else {
-        return None;
-    };
-    Some(Command::New(New {
-        store: word_at(words, 1),
-        scale,
-        degree,
-    }))
+    let n = read_digits(text, u128::from(most))?;
+    Some(n as u8)
 }
 
-fn read_load(words: &[String]) -> Option<Command<'_>>
-    requires { length words.now ≡ 5 }
-    ensures { option_map command_view result ≡ load_of (map string_bytes words.now) }
+/// A number of magnitude at most so much.
+pub(crate) fn read_whole(text: &[u8], most: u64) -> Option<i64>
+    requires { most ≤ 2 ^ 40 }
+    ensures { result ≡ whole_up_to most text.now }
 {
-    if !is_file_word(word_at(words, 1)) {
-        return None;
-    }
-    let Some(name) = Name::of(word_at(words, 2).as_bytes()) else {
-        return None;
-    };
-    if !is_file_word(word_at(words, 3)) {
-        return None;
-    }
-    Some(Command::Load(Load {
-        store: word_at(words, 1),
-        name,
-        csv: word_at(words, 3),
-        column: word_at(words, 4),
-    }))
-}
-
-fn read_check(words: &[String]) -> Option<Command<'_>>
-    requires { length words.now ≡ 2 }
-    ensures { option_map command_view result ≡ check_of (map string_bytes words.now) }
-{
-    if !is_file_word(word_at(words, 1)) {
-        return None;
-    }
-    Some(Command::Check(Check {
-        store: word_at(words, 1),
-    }))
-}
-
-fn read_query(alloc: Global, words: &[String]) -> Result<Option<Command<'_>>, AllocError>
-    requires { length words.now ≡ 4 }
-    ensures { IfOk result (λ c. option_map command_view c ≡ query_of (map string_bytes words.now)) }
-{
-    if !is_file_word(word_at(words, 1)) {
-        return Ok(None);
-    }
-    let Some(budget) = read_digits(word_at(words, 2).as_bytes(), MOST_BUDGET) else {
-        return Ok(None);
-    };
-    let store = word_at(words, 1);
-    match parse(alloc, word_at(words, 3).as_bytes()) {
-        Ok(q) => {
-            if !is_of_numbers(&q) {
-                return Ok(None);
-            }
-            let asked = Ok(q);
-            Ok(Some(Command::Query(Query {
-                store,
-                budget,
-                asked,
-            })))
-        }
-        Err(ParseErr::Memory) => Err(AllocError),
-        Err(e) => {
-            let asked = Err(e);
-            Ok(Some(Command::Query(Query {
-                store,
-                budget,
-                asked,
-            })))
-        }
+    let n = read_i128(text)?;
+    if n.unsigned_abs() <= u128::from(most) {
+        Some(n as i64)
+    } else {
+        None
     }
 }
 
-/// The command that the words spell.
-#[tactic(auto, unfolding(crate::specs::Commands::command_of))]
-pub(crate) fn read_command(
-    alloc: Global,
-    words: &[String],
-) -> Result<Option<Command<'_>>, AllocError>
-    ensures { IfOk result (λ c. option_map command_view c ≡ command_in words.now) }
+/// The name as text.
+pub(crate) fn name_text(name: &Name) -> &str
+    ensures { result.now ≡ name.now }
 {
-    if is_form(words, "once", 7) {
-        return Ok(read_once(words));
+    match str::from_utf8(name.bytes()) {
+        Ok(text) => text,
+        Err(_) => unreachable!(),
     }
-    if is_form(words, "new", 4) {
-        return Ok(read_new(words));
-    }
-    if is_form(words, "load", 5) {
-        return Ok(read_load(words));
-    }
-    if is_form(words, "check", 2) {
-        return Ok(read_check(words));
-    }
-    if is_form(words, "query", 4) {
-        return read_query(alloc, words);
-    }
-    Ok(None)
 }

@@ -1,4 +1,4 @@
-use Rattle.query_cli.proofs.CheckLaws.{stores-are-accepted, only-stores-are-accepted}
+use Rattle.query_cli.proofs.CommandLaws.Check.{stores-are-accepted, only-stores-are-accepted}
 use Rattle.query_cli.proofs.laws.stores_are_accepted.Goals as goal
 
 pub returns-clause-accepted : goal.returns-clause-accepted

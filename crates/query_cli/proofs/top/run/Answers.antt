@@ -1,5 +1,5 @@
 use Rattle.std.proofs.Common.{◌∙◌, sym, ap, Err}
-use Rattle.query_cli.proofs.ReplyTexts.{hidden}
+use Rattle.query_cli.proofs.RunLaws.{hidden}
 use Rattle.query_cli.proofs.top.run.Goals as goal
 
 pub returns-in-Err-Failed-clause-cut : goal.returns-in-Err-Failed-clause-cut

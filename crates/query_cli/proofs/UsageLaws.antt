@@ -1,0 +1,135 @@
+-- What is answered by `usage fault`.
+use Rattle.std.proofs.Common.{◌≡◌, ◌∙◌, ℤ, pos, Bool, true, false, List, ℕ, length, Option, Some, None, Result, Ok, Err}
+use Rattle.std.specs.Prelude.{if◌then◌else◌}
+use Rattle.std.specs.Result.{result_err}
+use Rattle.semantics.specs.Admission as admission
+use Rattle.semantics.specs.Files.{Files}
+use Rattle.semantics.specs.Plain.{plain}
+use Rattle.semantics.specs.Term.{QueryTerm}
+use Rattle.series_csv.specs.Column.{column_of}
+use Rattle.series_csv.specs.declared.fault.CsvErr.{CsvErr}
+use Rattle.store_file.specs.Added.{name_refusal}
+use Rattle.store_file.specs.StoreValue.{StoreValue}
+use Rattle.store_file.specs.declared.adding.SeriesErr.{SeriesErr}
+use Rattle.store_file.specs.Decoded.{decode_of}
+use Rattle.store_file.specs.Facts.{facts_in}
+use Rattle.store_file.specs.declared.decoding.StoreErr.{StoreErr}
+use Rattle.query_cli.specs.Commands.{Command, IsUsage, check, load, new_store, once, query, refusal_of}
+use Rattle.query_cli.specs.Commands.Check.{CheckCommand, checked_by}
+use Rattle.query_cli.specs.Commands.Load.{LoadCommand, Loaded, loaded_by, loaded_in}
+use Rattle.query_cli.specs.Commands.Once.{OnceCommand, is_range_of, range_in, summed_by}
+use Rattle.query_cli.specs.Commands.Query.{QueryCommand, admitted_in, asked_by, asked_in, query_in}
+use Rattle.query_cli.specs.Reading.{File, Reading, held, missing, oversized}
+use Rattle.query_cli.specs.Refusals.{Refusal, absent, bad_csv, bad_query, bad_store, domain, query_rank, query_refusal, query_unknown, range, series_fault, status_of, store_fault, too_big, usage}
+use Rattle.query_cli.specs.Run.{IsRefused}
+use Rattle.query_cli.specs.Steps.{and_then, bytes_of, column_in, csv_bytes, known_store_in, refused_as, room_in, store_bytes, store_in, unless_refused}
+use Rattle.query_cli.specs.declared.status.Status.TheVariants as status
+
+-- ---- steps that never answer so
+
+behind : {A B : Type 0} (x : Result A Refusal) (f : A → Result B Refusal) → (x ≡ Err usage → ⊥) → ((a : A) → f a ≡ Err usage → ⊥) → and_then x f ≡ Err usage → ⊥
+behind (Ok a) f first rest h = rest a h
+behind (Err e) f first rest h = first cc
+
+only_first : {A B : Type 0} (x : Result A Refusal) (f : A → Result B Refusal) → ((a : A) → f a ≡ Err usage → ⊥) → and_then x f ≡ Err usage → x ≡ Err usage
+only_first (Ok a) f rest h = absurd (rest a h)
+only_first (Err e) f rest h = cc
+
+read : (name : List ℕ) (f : File) → bytes_of name f ≡ Err usage → ⊥
+read name (held b) h = cc
+read name missing h = cc
+read name oversized h = cc
+
+error : {A E : Type 0} (make : E → Refusal) (x : Result A E) → ((e : E) → make e ≡ usage → ⊥) → refused_as make x ≡ Err usage → ⊥
+error make (Ok a) isnt h = cc
+error make (Err e) isnt h = isnt e cc
+
+unless : {A E : Type 0} (make : E → Refusal) (a : A) (o : Option E) → ((e : E) → make e ≡ usage → ⊥) → unless_refused make a o ≡ Err usage → ⊥
+unless make a None isnt h = cc
+unless make a (Some e) isnt h = isnt e cc
+
+in_range : (xs : List ℤ) (t : Bool) → ◌≡◌ {A = Result (List ℤ) Refusal} (if t then Ok xs else Err (domain 1 (pos 0) (pos (length xs)))) (Err usage) → ⊥
+in_range xs true h = cc
+in_range xs false h = cc
+
+admission_isnt : (e : admission.NotAdmitted) → query_refusal e ≡ usage → ⊥
+admission_isnt (admission.unknown name) h = cc
+admission_isnt (admission.high_rank sum) h = cc
+admission_isnt (admission.outside sum lo hi) h = cc
+admission_isnt (admission.too_great node) h = cc
+
+in_store : (q : QueryTerm) (bytes : List ℕ) → asked_in q bytes ≡ Err usage → ⊥
+in_store q bytes =
+    behind (known_store_in bytes) (λ m. admitted_in q m) (error {E = StoreErr} (λ e. store_fault) (decode_of bytes) (λ e k. cc))
+    (λ m. unless query_refusal (record { store = m; query = q }) (admission.refusal_of (facts_in m) (plain q)) admission_isnt)
+
+abbrev found_in : StoreValue → List ℤ → Result Loaded Refusal
+found_in store xs = Ok (record { store = store; readings = xs })
+
+-- ---- commands
+
+once_isnt : (reading : Reading) (c : OnceCommand) → summed_by reading c ≡ Err usage → ⊥
+once_isnt reading c =
+    behind _ _ (read c.csv (reading.csv c.csv))
+    (λ b. behind _ _ (error bad_csv _ (λ e k. cc)) (λ xs. in_range xs (is_range_of (length xs) c.from c.until)))
+
+in_column : (c : LoadCommand) (text : List ℕ) (store : StoreValue) → and_then (column_in text c.column store.scale) (λ xs. found_in store xs) ≡ Err usage → ⊥
+in_column c text store =
+    behind (column_in text c.column store.scale) (λ xs. found_in store xs)
+    (error {E = CsvErr} bad_csv (column_of text c.column store.scale None) (λ e k. cc)) (λ xs h. cc)
+
+in_room : (c : LoadCommand) (text : List ℕ) (m : StoreValue)
+    → and_then (room_in m c.name) (λ store. and_then (column_in text c.column store.scale) (λ xs. found_in store xs)) ≡ Err usage → ⊥
+in_room c text m =
+    behind (room_in m c.name) (λ store. and_then (column_in text c.column store.scale) (λ xs. found_in store xs))
+    (unless {E = SeriesErr} (series_fault c.name) m (name_refusal m c.name) (λ e k. cc)) (in_column c text)
+
+in_bytes : (c : LoadCommand) (stored text : List ℕ) → loaded_in c stored text ≡ Err usage → ⊥
+in_bytes c stored text =
+    behind (store_in stored) (λ m. and_then (room_in m c.name) (λ store. and_then (column_in text c.column store.scale) (λ xs. found_in store xs)))
+    (error {E = StoreErr} bad_store (decode_of stored) (λ e k. cc)) (in_room c text)
+
+load_isnt : (reading : Reading) (c : LoadCommand) → loaded_by reading c ≡ Err usage → ⊥
+load_isnt reading c =
+    behind (store_bytes reading c.store) (λ stored. and_then (csv_bytes reading c.csv) (λ text. loaded_in c stored text)) (read c.store (reading.store c.store))
+    (λ stored. behind (csv_bytes reading c.csv) (λ text. loaded_in c stored text) (read c.csv (reading.csv c.csv)) (in_bytes c stored))
+
+check_isnt : (reading : Reading) (c : CheckCommand) → checked_by reading c ≡ Err usage → ⊥
+check_isnt reading c = behind _ _ (read c.store (reading.store c.store)) (λ stored. error bad_store _ (λ e k. cc))
+
+query_first : (reading : Reading) (c : QueryCommand) → asked_by reading c ≡ Err usage → query_in c.text ≡ Err usage
+query_first reading c =
+    only_first (query_in c.text) (λ q. and_then (store_bytes reading c.store) (λ bytes. asked_in q bytes))
+    (λ q. behind (store_bytes reading c.store) (λ bytes. asked_in q bytes) (read c.store (reading.store c.store)) (λ b. in_store q b))
+
+error_of : {A : Type 0} (x : Result A Refusal) (r : Refusal) → result_err x ≡ Some r → x ≡ Err r
+error_of (Ok a) r h = cc
+error_of (Err e) r h = cc
+
+of_status : (r : Refusal) → status_of r ≡ status.Usage → r ≡ usage
+of_status usage e = cc
+of_status (absent name) e = cc
+of_status (too_big name) e = cc
+of_status (bad_csv e) h = cc
+of_status (bad_store e) h = cc
+of_status (series_fault name e) h = cc
+of_status (domain sum lo hi) e = cc
+of_status (bad_query e) h = cc
+of_status store_fault e = cc
+of_status (query_unknown name) e = cc
+of_status (query_rank sum) e = cc
+of_status (range node) e = cc
+
+is_usage : (reading : Reading) (command : Option Command) → refusal_of reading command ≡ Some usage → IsUsage command
+is_usage reading None h = tt
+is_usage reading (Some (once c)) h = absurd (once_isnt reading c (error_of (summed_by reading c) usage h))
+is_usage reading (Some (new_store c)) h = cc
+is_usage reading (Some (load c)) h = absurd (load_isnt reading c (error_of (loaded_by reading c) usage h))
+is_usage reading (Some (check c)) h = absurd (check_isnt reading c (error_of (checked_by reading c) usage h))
+is_usage reading (Some (query c)) h = query_first reading c (error_of (asked_by reading c) usage h)
+
+pub usage_only : (files : Option Files) (command : Option Command) (r : Refusal) → IsRefused files command r → status_of r ≡ status.Usage → IsUsage command
+usage_only files command r k e =
+    let is : r ≡ usage = of_status r e in
+    let called : refusal_of k.reading command ≡ Some usage = k.called ∙ (λ i. Some (is i)) in
+    is_usage k.reading command called

@@ -1,0 +1,39 @@
+-- What reading the files of a command comes to, where no call fails.
+use Rattle.std.specs.Prelude.{◌≡◌, ◌^◌, ℕ, List, length, Option, Some, None, nat_lt, if◌then◌else◌}
+use Rattle.semantics.specs.Files.{Files, file_of}
+
+-- a file as it is read: its bytes; or there is none; or it is too long
+pub data File : Type 0 where
+  held : List ℕ → File
+  missing : File
+  oversized : File
+
+abbrev pub file_within : ℕ → Option (List ℕ) → File
+file_within most None = missing
+file_within most (Some bytes) = if nat_lt most (length bytes) then oversized else held bytes
+
+-- the file of a name, of at most so many bytes
+abbrev pub file_at : Files → ℕ → List ℕ → File
+file_at files most name = file_within most (file_of files name)
+
+-- the most bytes of a CSV file
+abbrev pub most_csv : ℕ
+most_csv = 2 ^ 26
+
+-- the most bytes of a store
+abbrev pub most_store : ℕ
+most_store = 2 ^ 28
+
+-- the files that are read, by their kind and name
+pub record Reading : Type 0 where
+  pub csv : List ℕ → File
+  pub store : List ℕ → File
+
+-- the files as they are there
+abbrev pub reading_in : Files → Reading
+reading_in files = record { csv = file_at files most_csv; store = file_at files most_store }
+
+-- what is read is what is there, where the shelf tells its files
+abbrev pub IsRead : Option Files → Reading → Type 0
+IsRead None reading = Unit {0}
+IsRead (Some files) reading = reading ≡ reading_in files

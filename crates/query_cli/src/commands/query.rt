@@ -1,0 +1,137 @@
+ghost use Rattle.std.specs.Prelude.{◌≡◌, ◌≤◌, false, true, length, map, option_map, string_bytes, Some, Err, Ok, IfOk, IfErr, if◌then◌else◌};
+ghost use Rattle.expr.specs.Terms.{query_term_of};
+ghost use Rattle.semantics.specs.Admission.{nodes_of};
+ghost use Rattle.store_file.specs.StoreValue.{StoreValue};
+ghost use Rattle.query_cli.specs.Commands.{query};
+ghost use Rattle.query_cli.specs.Commands.Query.{Asked, IsAdmittedValue, IsValueLine, admitted_in, asked_in, query_in, query_of, query_reads};
+ghost use Rattle.query_cli.specs.Numbers.{is_of_numbers};
+ghost use Rattle.query_cli.specs.Reading.{most_store};
+ghost use Rattle.query_cli.specs.Run.{IsDone, IsRefused};
+ghost use Rattle.query_cli.specs.Shelf.{OnlyReads, RoseAtMost};
+ghost use Rattle.query_cli.specs.Stops.{IfRefused, IfStopped, IsStepRefusal};
+ghost use Rattle.query_cli.specs.Views.{command_view, query_view};
+
+use crate::commands::Command;
+use crate::descent::Answer;
+use crate::numbers::{evaluate, is_of_numbers};
+use crate::refusals::Refusal;
+use crate::steps::answer_line::line_of;
+use crate::steps::files::{MOST_STORE, read_file};
+use crate::steps::store::known_store;
+use crate::stop::{Fault, Halt, Stop, refuse};
+use crate::words::{MOST_BUDGET, is_file_word, read_digits, word_at};
+use expr_parse::{ParseErr, parse};
+use outside::Shelf;
+use std::alloc::Global;
+
+/// `query STORE BUDGET QUERY`: the interval of what a query over numbers comes to.
+#[derive(Drop)]
+pub(crate) struct Query<'a> {
+    pub(crate) store: &'a str,
+    /// The most that the interval may be wide.
+    pub(crate) budget: u128,
+    pub(crate) text: &'a str,
+}
+
+impl<'a> Query<'a> {
+    pub(crate) fn read(words: &'a [String]) -> Option<Command<'a>>
+        requires { length words.now ≡ 4 }
+        ensures { option_map command_view result ≡ option_map query (query_of (map string_bytes words.now)) }
+    {
+        if !is_file_word(word_at(words, 1)) {
+            return None;
+        }
+        let budget = read_digits(word_at(words, 2).as_bytes(), MOST_BUDGET)?;
+        Some(Command::Query(Query {
+            store: word_at(words, 1),
+            budget,
+            text: word_at(words, 3),
+        }))
+    }
+
+    /// The line of what the query comes to over the store.
+    pub(crate) fn answer<S: Shelf>(&self, alloc: Global, shelf: &mut S) -> Result<String, Halt>
+        ensures done { IfOk result (λ t.
+            IsDone (S.files shelf.old) (S.files shelf.new) (Some (query (query_view self.now))) (string_bytes t)) }
+        ensures refused { IfErr result (λ h.
+            IfStopped h (IsRefused (S.files shelf.old) (Some (query (query_view self.now))))) }
+        ensures shelf { OnlyReads S.files S.read_faults S.replace_faults shelf.old shelf.new result }
+        ensures reading { result ≡ Err (Halt.Faulted Fault.Reading) → query_reads (query_view self.now) ≡ true }
+        ensures reads_nothing { query_reads (query_view self.now) ≡ false
+            → S.read_faults shelf.new ≡ S.read_faults shelf.old }
+        ensures fetches { RoseAtMost (if query_reads (query_view self.now) then 1 else 0) (S.fetches shelf.old)
+            (S.fetches shelf.new) }
+    {
+        let q = read_query(alloc, self.text)?;
+        let bytes = read_file(alloc, shelf, MOST_STORE, self.store)?;
+        let line = answer_in_store(alloc, &q, self.budget, &bytes)?;
+        Ok(line)
+    }
+}
+
+// The query of a text, which is over numbers alone.
+fn read_query(alloc: Global, text: &str) -> Result<expr::Query, Stop>
+    ensures ok { IfOk result (λ q. query_in text.now ≡ Ok (query_term_of q)) }
+    ensures numbers { IfOk result (λ q. is_of_numbers (query_term_of q) ≡ true) }
+    ensures nodes { IfOk result (λ q. length (nodes_of (query_term_of q)) ≤ 4096) }
+    ensures refused { IfErr result (λ s. IfRefused s (IsStepRefusal (query_in text.now))) }
+{
+    match parse(alloc, text.as_bytes()) {
+        Ok(q) => {
+            if is_of_numbers(&q) {
+                Ok(q)
+            } else {
+                Err(refuse(alloc, &Refusal::Usage))
+            }
+        }
+        Err(ParseErr::Memory) => Err(Stop::Memory),
+        Err(e) => Err(refuse(alloc, &Refusal::BadQuery(e))),
+    }
+}
+
+// What a query over numbers comes to, whatever the store.
+fn admitted(alloc: Global, q: &expr::Query) -> Result<i128, Stop>
+    requires numbers { is_of_numbers (query_term_of q.now) ≡ true }
+    requires nodes { length (nodes_of (query_term_of q.now)) ≤ 4096 }
+    ensures ok { IfOk result (λ v. (m : StoreValue) → IsAdmittedValue (query_term_of q.now) m v) }
+    ensures refused { IfErr result (λ s. IfRefused s (λ r. (m : StoreValue)
+        → IsStepRefusal (admitted_in (query_term_of q.now) m) r)) }
+{
+    match evaluate(q, 1) {
+        Ok(evaluated) => Ok(evaluated.value),
+        Err(node) => Err(refuse(alloc, &Refusal::Range(node))),
+    }
+}
+
+// The interval of one number, for which no node is used.
+fn exactly(value: i128) -> Answer
+    ensures { result ≡ record { lo = value; hi = value; width = 0; nodes = 0; opened = 0 } }
+{
+    Answer {
+        lo: value,
+        hi: value,
+        width: 0,
+        nodes: 0,
+        opened: 0,
+    }
+}
+
+// The line of the query over the bytes of the store.
+fn answer_in_store(
+    alloc: Global,
+    q: &expr::Query,
+    budget: u128,
+    bytes: &[u8],
+) -> Result<String, Stop>
+    requires numbers { is_of_numbers (query_term_of q.now) ≡ true }
+    requires nodes { length (nodes_of (query_term_of q.now)) ≤ 4096 }
+    requires few { length bytes.now ≤ most_store }
+    ensures ok { IfOk result (λ t. (asked : Asked) × (asked_in (query_term_of q.now) bytes.now ≡ Ok asked)
+        × IsValueLine asked budget (string_bytes t)) }
+    ensures refused { IfErr result (λ s. IfRefused s (IsStepRefusal (asked_in (query_term_of q.now) bytes.now))) }
+{
+    known_store(alloc, bytes)?;
+    let value = admitted(alloc, q)?;
+    let line = line_of(alloc, &exactly(value))?;
+    Ok(line)
+}

@@ -1,0 +1,46 @@
+ghost use Rattle.query_cli.specs.Refusals.{status_of};
+ghost use Rattle.query_cli.specs.Views.{refusal_view};
+ghost use Rattle.std.specs.Prelude.{◌≡◌};
+
+pub(crate) mod lines;
+
+use crate::status::Status;
+use expr::Name;
+use expr_parse::ParseErr;
+use series_csv::CsvErr;
+use store_file::{SeriesErr, StoreErr};
+
+/// The first refusal of a command, with what its line names.
+#[derive(Drop)]
+pub(crate) enum Refusal<'a> {
+    Usage,
+    Absent(&'a str),
+    TooBig(&'a str),
+    BadCsv(CsvErr),
+    BadStore(StoreErr),
+    SeriesFault(Name, SeriesErr),
+    Domain { sum: u32, lo: i64, hi: i64 },
+    BadQuery(ParseErr),
+    /// The bytes stand for no store, of which no place is told.
+    StoreFault,
+    Range(u32),
+}
+
+impl Refusal<'_> {
+    pub(crate) fn status(&self) -> Status
+        ensures { result ≡ status_of (refusal_view self.now) }
+    {
+        match self {
+            Refusal::Usage => Status::Usage,
+            Refusal::Absent(_) => Status::Absent,
+            Refusal::TooBig(_) => Status::TooBig,
+            Refusal::BadCsv(_) => Status::BadCsv,
+            Refusal::BadStore(_) => Status::BadStore,
+            Refusal::SeriesFault(..) => Status::SeriesFault,
+            Refusal::Domain { .. } => Status::Domain,
+            Refusal::BadQuery(_) => Status::BadQuery,
+            Refusal::StoreFault => Status::BadStore,
+            Refusal::Range(_) => Status::Range,
+        }
+    }
+}

@@ -1,10 +1,12 @@
 pub mod AlignedRanges
 pub mod Bounds
+pub mod EndLaws
 pub mod FitLaws
 pub mod GrowthLaws
 pub mod PartLaws
 pub mod ReadingLaws
 pub mod SanityLaws
 pub mod ShapeLaws
+pub mod StepLaws
 pub mod TreeLaws
 pub mod UnitLaws

@@ -9,7 +9,7 @@ use Rattle.segment.specs.declared.segments.Seg.{Seg}
 use Rattle.segment.specs.Measure.{unit, estimate_at, miss_at, magnitude_at, estimate_magnitude_at, miss, greatest_reading, greatest_estimate, coefficient_bound, IsBounded, EveryTrueIsSane, curve_of}
 use Rattle.segment.proofs.Bounds.{greatest_reading-le}
 
-estimate-le : (p : Curve) (n d i : ℕ) → IsBounded p n d → i < n → unsigned_abs (estimate_at p i) ≤ 3 * coefficient_bound d
+pub estimate-le : (p : Curve) (n d i : ℕ) → IsBounded p n d → i < n → unsigned_abs (estimate_at p i) ≤ 3 * coefficient_bound d
 estimate-le p n d i bounded lt =
     let linear : unsigned_abs p.b * i ≤ unsigned_abs p.b * n = mul-le-mul_left (unsigned_abs p.b) (omega arith) in
     let places : i * i ≤ n * n = mul-le-mul (omega arith) (omega arith) in

@@ -3,4 +3,5 @@ pub mod Growth
 pub mod Measure
 pub mod Nodes
 pub mod Shape
+pub mod Steps
 pub mod Tree

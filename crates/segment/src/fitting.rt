@@ -6,7 +6,7 @@ ghost use Rattle.segment.specs.Measure.{unit, miss, greatest_reading, coefficien
 ghost use Rattle.segment.specs.Fit.{in_block, block_of, bend_of, scaled, straightened, moment_at, slope_by, level_by, curve_by, flat_of, line_of, parabola_of, kept, better, with_line, with_parabola, fit_of};
 
 use crate::curves::{UNITS, at, plus};
-use crate::measures::{greatest_estimate, greatest_reading, miss_of};
+use crate::measures::{greatest_estimate, greatest_reading, miss};
 use crate::sanity::greatest_coefficient;
 use crate::{Curve, Seg};
 use power_sum::power;
@@ -94,7 +94,7 @@ fn level_fit(xs: &[i32]) -> Ranked
     ensures bounded { IsBounded result.curve (length xs.now) (greatest_reading xs.now) }
 {
     let curve = flat(xs);
-    let miss = miss_of(xs, &curve);
+    let miss = miss(xs, &curve);
     Ranked { curve, miss }
 }
 
@@ -110,7 +110,7 @@ fn better_of(xs: &[i32], best: Ranked, other: Option<Curve>) -> Ranked
     ensures bounded { IsBounded result.curve (length xs.now) (greatest_reading xs.now) }
 {
     let Some(curve) = other else { return best };
-    let miss = miss_of(xs, &curve);
+    let miss = miss(xs, &curve);
     if miss < best.miss {
         Ranked { curve, miss }
     } else {

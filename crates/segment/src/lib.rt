@@ -15,7 +15,7 @@ mod tests;
 pub use curves::Curve;
 pub use fitting::fit;
 pub use growth::few_nodes_are_made;
-pub use measures::{GREATEST_READING, greatest_reading, measure, unit};
+pub use measures::{GREATEST_READING, greatest_estimate, greatest_reading, measure, miss, unit};
 pub use node_access::{Children, NodeErr, Nodes};
 pub use sanity::{every_true_segment_is_sane, is_bounded, is_sane};
 pub use segments::{Measures, Seg};

@@ -1,7 +1,8 @@
-ghost use Rattle.std.specs.Prelude.{◌≡◌, ◌+◌, ◌*◌, ◌^◌, ◌<◌, ◌≤◌, pos, ◌*ℤ◌, ◌+ℤ◌, ◌-ℤ◌, length, unsigned_abs, [], ◌∷◌};
-ghost use Rattle.segment.specs.Measure.{unit, miss, greatest_reading, greatest_estimate, unit_seg, AreReadings, IsBounded, IsTrueOf};
+ghost use Rattle.std.specs.Prelude.{◌≡◌, ◌+◌, ◌-◌, ◌*◌, ◌^◌, ◌<◌, ◌≤◌, pos, ◌*ℤ◌, ◌+ℤ◌, ◌-ℤ◌, length, unsigned_abs, [], ◌∷◌};
+ghost use Rattle.semantics.specs.Sums.{sum_below};
+ghost use Rattle.segment.specs.Measure.{unit, miss, miss_at, greatest_reading, greatest_estimate, unit_seg, AreReadings, IsBounded, IsTrueOf};
 
-use crate::curves::UNITS;
+use crate::curves::{UNITS, plus};
 use crate::{Curve, Measures, Seg};
 
 /// The most that a reading may come to.
@@ -19,7 +20,7 @@ pub fn measure(xs: &[i32], a: i64, b: i64, c: i64) -> Measures
 {
     let curve = Curve { a, b, c };
     Measures {
-        l: miss_of(xs, &curve),
+        l: miss(xs, &curve),
         d: greatest_reading(xs),
         f: greatest_estimate(&curve, xs.len()),
     }
@@ -44,15 +45,44 @@ pub fn unit(x: i32, start: u32) -> Seg
 }
 
 /// The sum of what the estimates miss.
-pub(crate) fn miss_of(xs: &[i32], curve: &Curve) -> u128
+pub fn miss(xs: &[i32], curve: &Curve) -> u128
     requires few { length xs.now ≤ 2 ^ 20 }
     requires small { AreReadings xs.now }
     requires bounded { IsBounded curve.now (length xs.now) (greatest_reading xs.now) }
     ensures value { result ≡ miss curve.now xs.now }
 {
     let mut sum = 0u128;
-    for i in 0..xs.len() {
-        sum += u128::from(gap(xs[i], curve.estimate(i)));
+    let mut from = 0;
+    while from < xs.len() {
+        let to = xs.len().min(from + BLOCK);
+        sum += u128::from(miss_between(xs, curve, from, to));
+        from = to;
+    }
+    sum
+}
+
+/// So many misses add up within 64 bits.
+const BLOCK: usize = 4096;
+
+/// The sum of what the estimates miss at the places from `from` up to `to`. Each estimate is made from the one before.
+fn miss_between(xs: &[i32], curve: &Curve, from: usize, to: usize) -> u64
+    requires some { from < to }
+    requires within { to ≤ length xs.now }
+    requires block { to ≤ from + BLOCK }
+    requires few { length xs.now ≤ 2 ^ 20 }
+    requires small { AreReadings xs.now }
+    requires bounded { IsBounded curve.now (length xs.now) (greatest_reading xs.now) }
+    ensures value { result + sum_below (miss_at curve.now xs.now) from ≡ sum_below (miss_at curve.now xs.now) to }
+    ensures bound { result ≤ (to - from) * 2 ^ 50 }
+{
+    let mut sum = 0u64;
+    let mut estimate = curve.estimate(from);
+    let mut step = curve.step(from);
+    let bend = plus(curve.c, curve.c);
+    for i in from..to {
+        sum += gap(xs[i], estimate);
+        estimate = plus(estimate, step);
+        step = plus(step, bend);
     }
     sum
 }
@@ -68,11 +98,25 @@ pub fn greatest_reading(xs: &[i32]) -> u64
     u64::from(most)
 }
 
-/// The greatest magnitude of an estimate over `n` places.
-pub(crate) fn greatest_estimate(curve: &Curve, n: usize) -> u64
+/// The greatest magnitude of an estimate over `n` places. That of a line is at one of its ends.
+pub fn greatest_estimate(curve: &Curve, n: usize) -> u64
     requires few { n ≤ 2 ^ 20 }
     requires bounded { IsBounded curve.now n (10 ^ 9) }
-    ensures value { result ≡ greatest_estimate curve.now n }
+    ensures { result ≡ greatest_estimate curve.now n }
+{
+    if curve.c != 0 || n == 0 {
+        return greatest_along(curve, n);
+    }
+    let first = curve.estimate(0).unsigned_abs();
+    let last = curve.estimate(n - 1).unsigned_abs();
+    first.max(last)
+}
+
+/// The greatest magnitude of an estimate, found place by place.
+fn greatest_along(curve: &Curve, n: usize) -> u64
+    requires few { n ≤ 2 ^ 20 }
+    requires bounded { IsBounded curve.now n (10 ^ 9) }
+    ensures { result ≡ greatest_estimate curve.now n }
 {
     let mut most = 0u64;
     for i in 0..n {

@@ -1,14 +1,15 @@
 -- Rows that take back the places of what they gave way to.
-use Rattle.std.proofs.Common.{◌≡◌, ℕ, zero, suc, ◌+◌, ◌-◌, ◌*◌, ◌/◌, ◌<◌, ◌≤◌, cond, if◌then◌else◌, ◌==◌, Bool, true, false, inl, inr, List, [], ◌∷◌, ◌++◌, length, map, set, get_or, arith, refl, sym, ap, subst, ◌∙◌}
+use Rattle.std.proofs.Common.{◌≡◌, ℕ, zero, suc, ◌+◌, ◌-◌, ◌*◌, ◌/◌, ◌<◌, ◌≤◌, cond, if◌then◌else◌, ◌==◌, Bool, true, false, inl, inr, List, [], ◌∷◌, ◌++◌, length, map, set, get_or, arith, refl, sym, ap, ap₂, subst, ◌∙◌}
 use Rattle.std.specs.Prelude.{Option, None, Some, is_some, ◌&&◌, not, drop, ℤ}
 use Rattle.std.proofs.lemmas.Bool.{cases_Bool, cases_eq, eqb-true, eq-eqb, ne_eqb}
 use Rattle.std.proofs.lemmas.List.{length-set}
 use Rattle.segment.specs.declared.segments.Seg.{Seg}
 use Rattle.descent.specs.declared.tables.Row.{Row}
-use Rattle.descent.specs.Rows.{Track}
+use Rattle.descent.specs.Rows.{Track, with_rows}
+use Rattle.descent.specs.Sound.{IsSoundTrack}
 use Rattle.descent.specs.Choice.{Has}
 use Rattle.descent.specs.CutFields.{restored_at, CanGoBackAt}
-use Rattle.descent.specs.Held.{Held, is_closed_at}
+use Rattle.descent.specs.Held.{Held, row_in, is_closed_at}
 use Rattle.descent.specs.Laid.{blocks, present, IsLaid, held, replaced, restored, CanGoBack, AreHalvesOf, IsOpeningOf}
 use Rattle.descent.proofs.Places.{AreRows, IsFoundAt, found-at, found_held, stands_held}
 
@@ -215,7 +216,7 @@ goes-back xs rows r v can = elim can.by [
 
 -- ---- a row goes back where it gave way
 
-closed-start : (o : Option (List ℤ)) (k start : ℕ) → (not (is_some o) && (k == start)) ≡ true → k ≡ start
+pub closed-start : (o : Option (List ℤ)) (k start : ℕ) → (not (is_some o) && (k == start)) ≡ true → k ≡ start
 closed-start None k start t = eqb-true k start t
 closed-start (Some xs) k start t = cc
 
@@ -295,10 +296,10 @@ splits-back rows start half r a b there s c alone sa some full next rest whole =
 
 -- ---- on one of the tracks of a cut
 
-pub back-at : {I : Type 0} → (xs : List (Track (Held I))) (k : ℕ) (r : Row I) (t : Track (Held I)) → k < length xs → CanGoBack r t.rows → CanGoBackAt k r (set xs k t)
-back-at [] k r t lt can = absurd (omega arith)
-back-at (x ∷ xs) zero r t lt can = can
-back-at (x ∷ xs) (suc k) r t lt can = back-at xs k r t (omega arith) can
+pub back-at : {I : Type 0} → (xs : List (Track (Held I))) (k : ℕ) (r : Row I) (t : Track (Held I)) → k < length xs → CanGoBack r t.rows → IsSoundTrack (with_rows row_in (record t { rows = restored (held r) t.rows })) → CanGoBackAt k r (set xs k t)
+back-at [] k r t lt can sound = absurd (omega arith)
+back-at (x ∷ xs) zero r t lt can sound = (can, sound)
+back-at (x ∷ xs) (suc k) r t lt can sound = back-at xs k r t (omega arith) can sound
 
 pub restored-at : {I : Type 0} → (xs : List (Track (Held I))) (k : ℕ) (h : Held I) (t d : Track (Held I)) → k < length xs → t ≡ record (get_or xs k d) { rows = t.rows } → restored h t.rows ≡ (get_or xs k d).rows
     → restored_at k h (set xs k t) ≡ xs
@@ -306,7 +307,7 @@ restored-at [] k h t d lt same e = absurd (omega arith)
 restored-at (x ∷ xs) zero h t d lt same e = ap (λ (u : Track (Held _)). (let v : Track (Held _) = record u { rows = restored h t.rows } in v) ∷ xs) same ∙ ap (λ rs. (let v : Track (Held _) = record x { rows = rs } in v) ∷ xs) e
 restored-at (x ∷ xs) (suc k) h t d lt same e = ap (λ ys. x ∷ ys) (restored-at xs k h t d (omega arith) same e)
 
-pub can-at : {I : Type 0} → (xs : List (Track (Held I))) (k : ℕ) (r : Row I) → CanGoBackAt k r xs → (k < length xs) × ((d : Track (Held I)) → CanGoBack r (get_or xs k d).rows)
+pub can-at : {I : Type 0} → (xs : List (Track (Held I))) (k : ℕ) (r : Row I) → CanGoBackAt k r xs → (k < length xs) × ((d : Track (Held I)) → CanGoBack r (get_or xs k d).rows × IsSoundTrack (with_rows row_in (record (get_or xs k d) { rows = restored (held r) (get_or xs k d).rows })))
 can-at [] k r can = absurd can
 can-at (x ∷ xs) zero r can = (omega arith, λ d. can)
 can-at (x ∷ xs) (suc k) r can = let i = can-at xs k r can in let lt = i.0 in (omega arith, i.1)
@@ -315,3 +316,7 @@ pub set-restored : {I : Type 0} → (xs : List (Track (Held I))) (k : ℕ) (h : 
 set-restored [] k h d t lt e = absurd (omega arith)
 set-restored (x ∷ xs) zero h d t lt e = ap (λ u. u ∷ xs) e
 set-restored (x ∷ xs) (suc k) h d t lt e = ap (λ ys. x ∷ ys) (set-restored xs k h d t (omega arith) e)
+
+-- a track whose rows go back is the old one
+pub whole-again : {I : Type 0} → (old new : Track (Held I)) (rs : List (Held I)) → new ≡ record old { rows = new.rows } → rs ≡ old.rows → (let t : Track (Held I) = record new { rows = rs } in t) ≡ old
+whole-again {I} old new rs same e = ap₂ (λ (u : Track (Held I)) (hs : List (Held I)). let t : Track (Held I) = record u { rows = hs } in t) same e

@@ -14,3 +14,8 @@ pub mod Spelling
 pub mod RootLaws
 pub mod Admits
 mod Telling
+pub mod SoundLaws
+pub mod SoundSteps
+pub mod Framing
+pub mod Going
+pub mod ChoiceLaws

@@ -1,6 +1,6 @@
 -- The cut that a descent has reached.
 use Rattle.std.proofs.Common.{◌≡◌, ℕ, zero, suc, ◌+◌, ◌-◌, ◌<◌, ◌≤◌, cond, Bool, true, false, ◌⊎◌, inl, inr, ℤ, pos, ◌-ℤ◌, Option, Some, None, List, [], ◌∷◌, ◌++◌, map, arith, refl, sym, ap, subst, ◌∙◌, below_more}
-use Rattle.std.specs.Prelude.{◌==◌}
+use Rattle.std.specs.Prelude.{◌==◌, IfSome}
 use Rattle.std.specs.List.{All, list_any, sum_by, count_by}
 use Rattle.std.proofs.lemmas.Bool.{cases_lt, cases_Bool}
 use Rattle.std.proofs.lemmas.List.Elements.{All-nil, All-cons, All-head, All-tail, All-append}
@@ -21,7 +21,8 @@ use Rattle.descent.specs.declared.Pick.{Pick}
 use Rattle.descent.specs.declared.descents.Answer.{Answer}
 use Rattle.descent.specs.Rows.{Row, Track, Cut, with_rows, segs_given, entries}
 use Rattle.descent.specs.Sums.{first_of, count_of, charge_of, interval_in, width_of, IsWithin}
-use Rattle.descent.specs.Choice.{Has, Line, lines_in, weight_of, heaviest, Charged, charged_row, charged_in, charged_rows, charge, choice, pick_of, pick_if}
+use Rattle.descent.specs.declared.choosing.Charged.{Charged}
+use Rattle.descent.specs.Choice.{Has, Line, lines_in, weight_of, heaviest, charged_row, charged_in, charged_rows, charge, choice, pick_of, pick_if}
 use Rattle.descent.specs.Choice.{row_of as charged_by}
 use Rattle.descent.specs.Descents.{Node, Nodes, closed, opened, below, cut_of, root_nodes, root_track, roots_from, roots, is_at, expanded_row, expanded_track, expanded, expanded_if, next, after, Meets}
 use Rattle.descent.specs.Held.{Held, row_in, shown, IsNodeOf, AreNodesOf, IsClosedAt}
@@ -165,6 +166,10 @@ chosen-closed q tracks at h = by (heaviest weight_of (lines_in cut q)) h
             let found = heaviest-found charge (charged_rows cut line.sum) c e in
             let same : pick_of c ≡ at = cc in
             subst (IsClosedAt tracks) same (found-in cut line.sum tracks tracks c (λ t m. m) found.some found.there)
+
+pub closed-if : {I : Type 0} → (q : QueryTerm) (tracks : List (Track (Held I))) (o : Option Pick) → o ≡ choice q (shown tracks) → IfSome o (IsClosedAt tracks)
+closed-if q tracks None e = tt
+closed-if q tracks (Some at) e = chosen-closed q tracks at (sym e)
 
 -- ---- the loop
 

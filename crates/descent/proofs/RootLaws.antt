@@ -1,25 +1,27 @@
 -- The roots of a cut.
-use Rattle.std.proofs.Common.{◌≡◌, ℕ, zero, suc, ◌+◌, ◌<◌, ◌≤◌, cond, Bool, true, false, Option, Some, None, List, [], ◌∷◌, ◌++◌, length, take, get_or, refl, sym, ap, ap₂, subst, ◌∙◌, arith, append-nil, length-take-le}
+use Rattle.std.proofs.Common.{◌≡◌, ℕ, zero, suc, ◌+◌, ◌<◌, ◌≤◌, cond, Bool, true, false, Option, Some, None, List, [], ◌∷◌, ◌++◌, length, map, take, get_or, refl, sym, ap, ap₂, subst, ◌∙◌, arith, append-nil, length-take-le}
 use Rattle.std.specs.Prelude.{IfSome, IsNone, ◌↔◌, slice_index}
-use Rattle.std.specs.List.{list_any}
+use Rattle.std.specs.List.{All, list_any}
 use Rattle.std.proofs.lemmas.List.{take_more}
-use Rattle.std.proofs.lemmas.List.Elements.{All-nil, All-cons}
+use Rattle.std.proofs.lemmas.List.Elements.{All-nil, All-cons, All-head, All-tail}
 use Rattle.semantics.specs.Admission.{query_names}
 use Rattle.semantics.specs.Names.{same_name}
 use Rattle.semantics.specs.Term.{QueryTerm}
 use Rattle.segment.specs.declared.segments.Seg.{Seg}
+use Rattle.segment.specs.Measure.{IsSane}
 use Rattle.segment.specs.Nodes.{Forest, IsForest, IsSeriesTree, Place, root_place, seg_at, tree_in, known_root, KeepsRoots}
 use Rattle.segment.specs.Tree.{SegTree, root_of}
 use Rattle.segment.proofs.PartLaws.{part_self, part-over}
 use Rattle.descent.specs.Rows.{Row, Track, with_rows}
 use Rattle.descent.specs.Descents.{Nodes, row_of, cut_of, root_track, roots_from, roots}
 use Rattle.descent.specs.Held.{Held, row_in, shown, head_of, heads, IsTrackOf, StandsFor, AreRising}
-use Rattle.descent.specs.Known.{greatest_known, root_head, heads_from, AreRootsKnown}
-use Rattle.descent.specs.Laid.{IsWholeRoot, root_table}
+use Rattle.descent.specs.Known.{greatest_known, root_head, heads_from, AreRootsKnown, AreApart}
+use Rattle.descent.specs.Sound.{name_of}
+use Rattle.descent.specs.Laid.{IsWholeRoot, IsRootOf, root_table}
 
-pub whole-root : {I : Type 0} → (len : ℕ) (o : Option (I × Seg)) → (IsNone o ↔ (len ≡ 0)) → IfSome o (λ r. r.1.start ≡ 0) → IfSome o (λ r. r.1.len ≡ len) → IfSome o (IsWholeRoot len)
-whole-root len None n s l = tt
-whole-root len (Some r) n s l = record { some = some len (λ z. let bad = n.1 z in cc); starts = s; spans = l }
+pub whole-root : {I : Type 0} → (len : ℕ) (o : Option (I × Seg)) → (IsNone o ↔ (len ≡ 0)) → IfSome o (λ r. r.1.start ≡ 0) → IfSome o (λ r. r.1.len ≡ len) → IfSome o (λ r. IsSane r.1 r.1.d) → IsRootOf len o
+whole-root len None n s l sane = n.0 refl
+whole-root len (Some r) n s l sane = record { sane = sane; some = some len (λ z. let bad = n.1 z in cc); starts = s; spans = l }
   where
     some : (k : ℕ) → (k ≡ 0 → ⊥) → 0 < k
     some zero h = absurd (h refl)
@@ -203,3 +205,28 @@ heads-length (t ∷ ts) = ap suc (heads-length ts)
 
 pub few-tracks : {R : Type 0} → (q : QueryTerm) (lengths : List ℕ) (known : List (Option Seg)) (names : List (List ℕ)) (ts : List (Track R)) → heads ts ≡ heads_from q lengths known 0 names → length ts ≤ length names
 few-tracks {R} q lengths known names ts e = let n = heads-few R q lengths known 0 names in let m = heads-length ts in let k = ap length e in omega arith
+
+-- ---- the names of the tracks differ
+
+pub heads-apart : (R : Type 0) (q : QueryTerm) (lengths : List ℕ) (known : List (Option Seg)) (k : ℕ) (names : List (List ℕ)) (P : List ℕ → Type 0) → All P names → All P (map name_of (heads_from {R = R} q lengths known k names))
+heads-apart R q lengths known k [] P all = All-nil P
+heads-apart R q lengths known k (name ∷ names) P all = by (list_any (same_name name) (query_names q)) (heads-apart R q lengths known (k + 1) names P (All-tail P name names all))
+  where
+    by : (b : Bool) → All P (map name_of (heads_from {R = R} q lengths known (k + 1) names)) → All P (map name_of (cond b (root_head {R = R} lengths known k name ∷ heads_from {R = R} q lengths known (k + 1) names) (heads_from {R = R} q lengths known (k + 1) names)))
+    by true rest = All-cons P name (map name_of (heads_from {R = R} q lengths known (k + 1) names)) (All-head P name names all) rest
+    by false rest = rest
+
+names-apart : (R : Type 0) (q : QueryTerm) (lengths : List ℕ) (known : List (Option Seg)) (k : ℕ) (names : List (List ℕ)) → AreApart names → AreApart (map name_of (heads_from {R = R} q lengths known k names))
+names-apart R q lengths known k [] h = tt
+names-apart R q lengths known k (name ∷ names) h = by (list_any (same_name name) (query_names q)) (names-apart R q lengths known (k + 1) names h.1)
+  where
+    by : (b : Bool) → AreApart (map name_of (heads_from {R = R} q lengths known (k + 1) names)) → AreApart (map name_of (cond b (root_head {R = R} lengths known k name ∷ heads_from {R = R} q lengths known (k + 1) names) (heads_from {R = R} q lengths known (k + 1) names)))
+    by true rest = (heads-apart R q lengths known (k + 1) names (λ other. same_name other name ≡ false) h.0, rest)
+    by false rest = rest
+
+pub heads-names : {R : Type 0} → (ts : List (Track R)) → map name_of ts ≡ map name_of (heads ts)
+heads-names [] = refl
+heads-names (t ∷ ts) = ap (λ ns. t.name ∷ ns) (heads-names ts)
+
+pub tracks-apart : {R : Type 0} → (q : QueryTerm) (lengths : List ℕ) (known : List (Option Seg)) (names : List (List ℕ)) (ts : List (Track R)) → heads ts ≡ heads_from q lengths known 0 names → AreApart names → AreApart (map name_of ts)
+tracks-apart {R} q lengths known names ts e h = subst AreApart (sym (heads-names ts ∙ ap (λ hs. map name_of hs) e)) (names-apart R q lengths known 0 names h)

@@ -20,7 +20,8 @@ use Rattle.error_prop.specs.QueryOver.{sums_over}
 use Rattle.descent.specs.declared.Pick.{Pick}
 use Rattle.descent.specs.Rows.{with_rows, Row, Track, Cut, units, segs_given, segs_of_row, segs_of_rows, entry_of, entries}
 use Rattle.descent.specs.Sums.{sum_in, first_of, count_of, charge_of, interval_in}
-use Rattle.descent.specs.Choice.{Has, Line, lines_in, whole_error, weight_of, heaviest, Charged, charged_row, charged_in, charged_rows, charge, choice, pick_of, pick_if}
+use Rattle.descent.specs.declared.choosing.Charged.{Charged}
+use Rattle.descent.specs.Choice.{Has, Line, lines_in, whole_error, weight_of, heaviest, charged_row, charged_in, charged_rows, charge, choice, pick_of, pick_if}
 use Rattle.descent.specs.Choice.{row_of as charged_by}
 use Rattle.descent.specs.Descents.{Node, Nodes, below, row_of, cut_of, is_at, expanded_row, expanded_track, expanded}
 use Rattle.std.proofs.Math.Nat.{div-lt_iff_lt-mul}
@@ -179,6 +180,13 @@ no-error e u some z = let lt : (e + (u - 1)) / u < 1 = (div-lt_iff_lt-mul some).
 
 abbrev pub counts : Cut → QueryTerm → ℕ
 counts cut q = if is_some (interval_in cut q) then 1 else 0
+
+pub counts-one : (cut : Cut) (q : QueryTerm) → counts cut q ≤ 1
+counts-one cut q = by (is_some (interval_in cut q))
+  where
+    by : (b : Bool) → (if b then 1 else 0) ≤ 1
+    by true = omega arith
+    by false = omega arith
 
 -- where there is no choice no sum matters
 pub no-choice : (q : QueryTerm) (cut : Cut) → IsPlain q → choice q cut ≡ None → All IsNothing (lines_of q (sums_over (entries cut) q) (counts cut q))

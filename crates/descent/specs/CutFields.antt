@@ -1,12 +1,14 @@
 -- The fields of a cut, and what contracts see of them.
-use Rattle.std.specs.Prelude.{ℕ, zero, suc, ◌≤◌, length, List, [], ◌∷◌, Option, Some, None}
+use Rattle.std.specs.Prelude.{ℕ, zero, suc, ◌≤◌, length, map, List, [], ◌∷◌, Option, Some, None}
 use Rattle.expr.specs.Terms.{query_term_of}
 use Rattle.descent.specs.declared.cuts.Change.{Change}
 use Rattle.descent.specs.declared.cuts.Cut.TheInside.{Inside}
 use Rattle.descent.specs.declared.tables.Row.{Row}
-use Rattle.descent.specs.Rows.{Track}
-use Rattle.descent.specs.Held.{Held, CutView, AreRising}
+use Rattle.descent.specs.Rows.{Track, with_rows}
+use Rattle.descent.specs.Held.{Held, CutView, row_in, AreRising}
+use Rattle.descent.specs.Known.{AreApart}
 use Rattle.descent.specs.Laid.{held, restored, CanGoBack}
+use Rattle.descent.specs.Sound.{IsSoundTrack, name_of}
 use Rattle.descent.specs.Spelled.{spelled}
 
 -- the tracks, where the rows of the k-th are as before
@@ -24,7 +26,8 @@ view_of c = record { query = spelled (query_term_of c.query); tracks = c.tables.
 
 abbrev pub CanGoBackAt : {I : Type 0} → ℕ → Row I → List (Track (Held I)) → Type 0
 CanGoBackAt k old [] = ⊥
-CanGoBackAt zero old (track ∷ tracks) = CanGoBack old track.rows
+CanGoBackAt zero old (track ∷ tracks) =
+    CanGoBack old track.rows × IsSoundTrack (with_rows row_in (record track { rows = restored (held old) track.rows }))
 CanGoBackAt (suc k) old (track ∷ tracks) = CanGoBackAt k old tracks
 
 abbrev pub CanBeTakenBack : {I : Type 0} → List (Track (Held I)) → Option (Change I) → Type 0
@@ -34,4 +37,5 @@ CanBeTakenBack tracks (Some change) = CanGoBackAt change.table change.row tracks
 pub record IsCut {I : Type 0} (c : Inside I) : Type 0 where
   pub few : length c.tables.items ≤ 16
   pub rising : AreRising 0 c.tables.items
+  pub apart : AreApart (map name_of c.tables.items)
   pub back : CanBeTakenBack c.tables.items c.last

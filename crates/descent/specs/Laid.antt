@@ -3,10 +3,12 @@ use Rattle.std.specs.Prelude.{◌≡◌, ℕ, zero, suc, ◌+◌, ◌-◌, ◌*�
 use Rattle.std.specs.Option.{option_map}
 use Rattle.descent.specs.declared.tables.Row.{Row}
 use Rattle.descent.specs.declared.tables.Table.TheInside.{Inside}
-use Rattle.descent.specs.Rows.{Track}
+use Rattle.descent.specs.Rows.{Track, with_rows}
 use Rattle.segment.specs.declared.segments.Seg.{Seg}
+use Rattle.segment.specs.Measure.{IsSane}
 use Rattle.descent.specs.Choice.{Has}
-use Rattle.descent.specs.Held.{Held, is_closed_at}
+use Rattle.descent.specs.Held.{Held, row_in, is_closed_at}
+use Rattle.descent.specs.Sound.{IsSoundTrack}
 
 -- how many blocks a range has
 abbrev pub blocks : ℕ → ℕ
@@ -37,6 +39,7 @@ view_of t = record { series = t.series; name = t.name; len = t.len; greatest = t
 pub record IsTable {I : Type 0} (t : Inside I) : Type 0 where
   pub laid : IsLaid 0 0 t.places.items
   pub few : length t.places.items ≤ 2 ^ 16
+  pub sound : IsSoundTrack (with_rows row_in (view_of t))
 
 -- the rows, where the closed one from a position gives way to others
 abbrev pub replaced : {I : Type 0} → ℕ → List (Held I) → List (Held I) → List (Held I)
@@ -105,9 +108,15 @@ pub record CanGoBack {I : Type 0} (old : Row I) (rows : List (Held I)) : Type 0 
 
 -- a root over all readings of a series
 pub record IsWholeRoot {I : Type 0} (len : ℕ) (r : I × Seg) : Type 0 where
+  pub sane : IsSane r.1 r.1.d
   pub some : 0 < len
   pub starts : r.1.start ≡ 0
   pub spans : r.1.len ≡ len
+
+-- the root of a series of so many readings, none where it has none
+abbrev pub IsRootOf : {I : Type 0} → ℕ → Option (I × Seg) → Type 0
+IsRootOf len None = len ≡ 0
+IsRootOf len (Some r) = IsWholeRoot len r
 
 abbrev pub root_table : {I : Type 0} → ℕ → List ℕ → ℕ → Option (I × Seg) → Track (Held I)
 root_table series name len None = record { series = series; name = name; len = len; greatest = 0; rows = [] }

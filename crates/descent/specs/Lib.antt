@@ -11,3 +11,6 @@ pub mod Stepped
 pub mod Spelled
 pub mod Told
 pub mod Known
+pub mod Sound
+pub mod Frames
+pub mod Charging

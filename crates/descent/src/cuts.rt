@@ -11,21 +11,24 @@ ghost use Rattle.segment.specs.declared.node_access.NodeErr.TheVariants.{Failed,
 ghost use Rattle.segment.specs.Nodes.{Forest, Place, HandsOut, KeepsRoots};
 ghost use Rattle.error_prop.specs.Queries.{IsCombined};
 ghost use Rattle.error_prop.specs.QueryOver.{sums_over};
-ghost use Rattle.descent.specs.Rows.{Track, entries};
+ghost use Rattle.descent.specs.Rows.{Track, entries, with_rows};
+ghost use Rattle.descent.specs.Sound.{IsSoundTrack};
 ghost use Rattle.descent.specs.Choice.{Has, choice};
 ghost use Rattle.descent.specs.Spelled.{spelled};
 ghost use Rattle.descent.specs.Descents as tree;
 ghost use Rattle.descent.specs.Descents.{Node, cut_of, expanded, expanded_row, row_of};
-ghost use Rattle.descent.specs.Held.{Held, heads, shown, IsTrackOf, AreTracksOf, IsNodeOf, AreNodesOf, IsClosedAt, steps_in, steps_left};
+ghost use Rattle.descent.specs.Held.{Held, heads, row_in, shown, IsTrackOf, AreTracksOf, IsNodeOf, AreNodesOf, IsClosedAt, steps_in, steps_left};
 ghost use Rattle.descent.specs.Known.{facts_in};
 ghost use Rattle.descent.specs.Laid.{held, restored, CanGoBack};
 ghost use Rattle.descent.specs.Told.{told};
 ghost use Rattle.descent.specs.Stepped.{IsClosedFrom, StepsTrack};
 
 use crate::Pick;
+use crate::choosing::{charges_at, heaviest_line, heaviest_row};
+use crate::frames::{facts_of, frame_of};
 use crate::rows::Rows;
 use crate::tables::{Row, Table};
-use error_prop::QueryOut;
+use error_prop::{QueryOut, query_interval};
 use expr::Query;
 use num_text::Memory;
 use segment::{Children, NodeErr, Nodes, Seg};
@@ -84,6 +87,7 @@ fn expand_row<N: Nodes>(
     ensures of { OnOk result (IsTrackOf (N.lengths nodes.new) (N.roots nodes.new) (N.stands nodes.new source.new) table.new) }
     ensures less { OnOk result (steps_in table.new.rows < steps_in table.old.rows) }
     ensures same { table.new ≡ record table.old { rows = table.new.rows } }
+    ensures sound { IsSoundTrack (with_rows row_in table.old) }
     ensures back { IfOk result (λ row. CanGoBack row table.new.rows) }
     ensures restored { IfOk result (λ row. restored (held row) table.new.rows ≡ table.old.rows) }
     ensures err { OnErr result (table.new ≡ table.old) }
@@ -135,7 +139,9 @@ impl<I: Copy> Cut<I> {
         ensures out { IfOk result (IsCombined (query_term_of q.now) (sums_over (entries (shown self.old.tracks)) (query_term_of q.now))) }
         ensures same { self.new ≡ self.old }
     {
-        Err(Memory)
+        let frame = frame_of(self.alloc, self.tables.as_slice())?;
+        let out = query_interval(self.alloc, q, &frame)?;
+        Ok(out)
     }
 
     /// The row that is to give way in the next step, or none where no sum matters or the interval is crossed.
@@ -148,7 +154,15 @@ impl<I: Copy> Cut<I> {
         ensures closed { IfOk result (λ at. IfSome at (IsClosedAt self.old.tracks)) }
         ensures same { self.new ≡ self.old }
     {
-        Err(Memory)
+        let frame = frame_of(self.alloc, self.tables.as_slice())?;
+        let out = query_interval(self.alloc, q, &frame)?;
+        let Some(k) = heaviest_line(out.sums.as_slice()) else {
+            return Ok(None);
+        };
+        let facts = facts_of(self.alloc, self.tables.as_slice())?;
+        let charges = charges_at(self.alloc, q, k, facts.as_slice(), &frame)?;
+        let row = heaviest_row(self.tables.as_slice(), charges.as_slice());
+        Ok(row)
     }
 
     /// The closed row at a place gives way to its node's children, or is opened where it is a leaf.

@@ -5,8 +5,10 @@ ghost use Rattle.descent.specs.Laws.{EachBudgetIsMet, EachCutHoldsTheValue};
 ghost use Rattle.descent.specs.Spelled.{SpellingTellsQueries};
 ghost use Rattle.descent.specs.Worked.{DescentsAreWorked, OtherSumsAreWorked, ProductsAreWorked};
 
+mod choosing;
 mod cuts;
 mod descents;
+mod frames;
 mod naming;
 mod rooted;
 mod rows;
@@ -14,6 +16,7 @@ mod tables;
 
 pub use cuts::Cut;
 pub use descents::{Answer, DescentErr, descend};
+pub use frames::cuts_are_frames;
 pub use rooted::roots;
 pub use rows::{CutRow, Rows};
 

@@ -1,14 +1,26 @@
 //! The rows of one series of a cut, each at the place of its first block.
 
-ghost use Rattle.std.specs.Prelude.{◌≡◌, ℕ, ◌+◌, ◌-◌, ◌*◌, ◌<◌, ◌≤◌, length, List, [], ◌∷◌, map, None, Some, slice_set, IfSome, IfOk, get_or, ◌^◌, replicate, ◌++◌, OnOk};
+ghost use Rattle.std.specs.Prelude.{◌≡◌, ℕ, ◌+◌, ◌-◌, ◌*◌, ◌<◌, ◌≤◌, length, List, [], ◌∷◌, map, None, Some, slice_set, IfSome, IfOk, get_or, ◌^◌, replicate, ◌++◌, OnOk, take};
 ghost use Rattle.segment.specs.Shape.{IsSplit};
 ghost use Rattle.descent.specs.Held.{Held, row_in as row_held};
 ghost use Rattle.descent.specs.Told.{told_row};
-ghost use Rattle.descent.specs.Laid.{blocks, held, replaced, IsRowFrom, IsOpened, AreHalves, CanGoBack, IsWholeRoot, restored, root_table};
-ghost use Rattle.descent.specs.Choice.{Has};
+ghost use Rattle.descent.specs.Laid.{blocks, held, replaced, IsRowFrom, IsOpened, AreHalves, CanGoBack, IsRootOf, restored, root_table};
+ghost use Rattle.descent.specs.Charging.{charged_from, heaviest_on};
+ghost use Rattle.descent.specs.Choice.{charge, Has};
+ghost use Rattle.descent.specs.Known.{fact_of};
+ghost use Rattle.expr.specs.Facts.{fact_of as fact_by};
+ghost use Rattle.descent.specs.Frames.{pushed_all};
+ghost use Rattle.descent.specs.Rows.{segs_of_row, segs_of_rows, with_rows};
+ghost use Rattle.descent.specs.Sound.{AreSmall, IsSoundRow, IsSoundTrack};
+ghost use Rattle.error_prop.specs.Entries.{last_end};
+ghost use Rattle.segment.specs.Measure.{IsSane};
 
+use crate::choosing::{Charged, later};
+use crate::frames::push_units;
 use crate::rows::CutRow;
-use expr::Name;
+use error_prop::Frame;
+use expr::{Fact, Name};
+use num_text::Memory;
 use segment::Seg;
 use std::alloc::{AllocError, Global};
 use std::marker::Model;
@@ -43,6 +55,13 @@ impl<I> Model for Table<I> {
     ghost view = { view_of };
 
     ghost invariant = { IsTable };
+}
+
+/// How many charges were gone over, and the first of the rows that are charged most.
+#[derive(Clone, Copy, Drop)]
+pub(crate) struct Weighed {
+    pub(crate) at: usize,
+    pub(crate) best: Option<Charged>,
 }
 
 /// So many places without rows.
@@ -96,6 +115,47 @@ fn join_two<I: Copy>(places: &mut Vec<Option<Row<I>>>, first: usize, second: usi
     places[second] = None;
 }
 
+/// The segments of a row are added to a frame: its own, or where it is opened one for each reading.
+fn put_row<I: Copy>(frame: &mut Frame, row: &Row<I>) -> Result<(), Memory>
+    requires begun { 0 < length frame.old }
+    requires start { row.now.seg.start ≡ last_end frame.old }
+    requires within { row.now.seg.start + row.now.seg.len ≤ 2 ^ 20 }
+    requires sound { (d : ℕ) × IsSoundRow d (row_held (held row.now)) }
+    ensures { OnOk result (frame.new ≡ pushed_all frame.old (segs_of_row (row_held (held row.now)))) }
+{
+    match &row.readings {
+        None => frame.push(row.seg),
+        Some(xs) => {
+            let len = row.seg.len as usize;
+            push_units(frame, row.seg.start, &xs[..len])
+        }
+    }
+}
+
+/// Goes over a row with the charges of its segments. An opened row is charged nothing.
+fn weigh_row<I: Copy>(series: u32, row: &Row<I>, charges: &[u128], from: Weighed) -> Weighed
+    requires sound { (d : ℕ) × IsSoundRow d (row_held (held row.now)) }
+    requires enough { from.at + length (segs_of_row (row_held (held row.now))) ≤ length charges.now }
+    ensures place { result.at ≡ from.at + length (segs_of_row (row_held (held row.now))) }
+    ensures best { result.best ≡ heaviest_on charge from.best (charged_from series charges.now from.at (row_held (held row.now) ∷ [])) }
+{
+    if row.readings.is_some() {
+        return Weighed {
+            at: from.at + row.seg.len as usize,
+            best: from.best,
+        };
+    }
+    let next = Charged {
+        series,
+        start: row.seg.start,
+        charge: charges[from.at],
+    };
+    Weighed {
+        at: from.at + 1,
+        best: later(from.best, next),
+    }
+}
+
 impl<I: Copy> Table<I> {
     /// The rows of a series of `len` readings: its root, or none.
     pub(crate) fn of_root(
@@ -106,7 +166,7 @@ impl<I: Copy> Table<I> {
         root: Option<(I, Seg)>,
     ) -> Result<Table<I>, AllocError>
         requires few { len ≤ 2 ^ 20 }
-        requires whole { IfSome root (IsWholeRoot len) }
+        requires whole { IsRootOf len root }
         ensures { IfOk result (λ t. t ≡ root_table series name len root) }
     {
         let Some(node) = root else {
@@ -142,6 +202,7 @@ impl<I: Copy> Table<I> {
 
     /// The row from a position on, or none where no row begins there.
     pub(crate) fn row_from(&self, start: u32) -> Option<Row<I>>
+        ensures sound { IsSoundTrack (with_rows row_held self.now) }
         ensures some { IfSome result (IsRowFrom self.now.rows start) }
         ensures none { result ≡ None → (h : Held I) → Has h self.now.rows → h.row.seg.start ≡ start → ⊥ }
     {
@@ -156,7 +217,8 @@ impl<I: Copy> Table<I> {
 
     /// A row is put, opened, into the place of the same one.
     pub(crate) fn open(&mut self, row: Row<I>)
-        requires { IsOpened self.old.rows row }
+        requires opened { IsOpened self.old.rows row }
+        requires small { IfSome row.readings (λ xs. AreSmall self.old.greatest row.seg.len (take row.seg.len xs)) }
         ensures { self.new ≡ record self.old { rows = replaced row.seg.start (held row ∷ []) self.old.rows } }
     {
         put_one(&mut self.places, (row.seg.start / 16) as usize, row);
@@ -164,7 +226,11 @@ impl<I: Copy> Table<I> {
 
     /// A row gives way to two.
     pub(crate) fn split(&mut self, left: Row<I>, right: Row<I>)
-        requires { AreHalves self.old.rows left.seg right.seg }
+        requires halves { AreHalves self.old.rows left.seg right.seg }
+        requires left_closed { left.readings ≡ None }
+        requires left_sane { IsSane left.seg self.old.greatest }
+        requires right_closed { right.readings ≡ None }
+        requires right_sane { IsSane right.seg self.old.greatest }
         ensures { self.new ≡ record self.old { rows = replaced left.seg.start (held left ∷ held right ∷ []) self.old.rows } }
     {
         let first = (left.seg.start / 16) as usize;
@@ -174,7 +240,8 @@ impl<I: Copy> Table<I> {
 
     /// A row takes back the place of what it gave way to.
     pub(crate) fn put_back(&mut self, row: Row<I>)
-        requires { CanGoBack row self.old.rows }
+        requires back { CanGoBack row self.old.rows }
+        requires sound { IsSoundTrack (with_rows row_held (record self.old { rows = restored (held row) self.old.rows })) }
         ensures { self.new ≡ record self.old { rows = restored (held row) self.old.rows } }
     {
         let first = (row.seg.start / 16) as usize;
@@ -187,6 +254,54 @@ impl<I: Copy> Table<I> {
             let second = first + (left.seg.len / 16) as usize;
             join_two(&mut self.places, first, second, row);
         }
+    }
+
+    /// The segments of the rows are added to a frame, in order.
+    pub(crate) fn put_segs(&self, frame: &mut Frame) -> Result<(), Memory>
+        requires begun { 0 < length frame.old }
+        requires start { last_end frame.old ≡ 0 }
+        ensures segs { OnOk result (frame.new ≡ pushed_all frame.old (segs_of_rows (map row_held self.now.rows))) }
+        ensures sound { IsSoundTrack (with_rows row_held self.now) }
+    {
+        for i in 0..self.places.len() {
+            let Some(row) = row_in(&self.places, i) else {
+                continue;
+            };
+            put_row(frame, &row)?;
+        }
+        Ok(())
+    }
+
+    pub(crate) fn name(&self) -> Name
+        ensures { result ≡ self.now.name }
+    {
+        self.name
+    }
+
+    pub(crate) fn fact(&self) -> Fact
+        ensures { fact_by result ≡ fact_of self.now }
+    {
+        Fact {
+            name: self.name,
+            n: self.len,
+            d: self.greatest,
+        }
+    }
+
+    /// Goes over the rows with the charges of their segments.
+    pub(crate) fn weigh(&self, charges: &[u128], from: Weighed) -> Weighed
+        requires enough { from.at + length (segs_of_rows (map row_held self.now.rows)) ≤ length charges.now }
+        ensures place { result.at ≡ from.at + length (segs_of_rows (map row_held self.now.rows)) }
+        ensures best { result.best ≡ heaviest_on charge from.best (charged_from self.now.series charges.now from.at (map row_held self.now.rows)) }
+    {
+        let mut weighed = from;
+        for i in 0..self.places.len() {
+            let Some(row) = row_in(&self.places, i) else {
+                continue;
+            };
+            weighed = weigh_row(self.series, &row, charges, weighed);
+        }
+        weighed
     }
 
     /// The rows are told, in order.

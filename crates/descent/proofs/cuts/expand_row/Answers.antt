@@ -1,4 +1,4 @@
-use Rattle.std.proofs.Common.{◌≡◌, ◌<◌, ◌≤◌, ◌+◌, ◌-◌, ◌*◌, ◌^◌, refl, sym, ap, subst, ◌∙◌, List, [], ◌∷◌, None, Some, ℕ, arith, pow_pos, take}
+use Rattle.std.proofs.Common.{◌≡◌, ◌<◌, ◌≤◌, ◌+◌, ◌-◌, ◌*◌, ◌^◌, refl, sym, ap, subst, ◌∙◌, List, [], ◌∷◌, None, Some, ℕ, arith, rules, length, pow_pos, take}
 use Rattle.std.specs.List.{All}
 use Rattle.std.proofs.lemmas.List.Elements.{All-nil, All-cons}
 use Rattle.segment.specs.declared.segments.Seg.{Seg}
@@ -9,6 +9,7 @@ use Rattle.descent.specs.Held.{Held, StandsFor, place_of, steps_in, IsTrackOf}
 use Rattle.descent.specs.Laid.{held, replaced, restored, CanGoBack}
 use Rattle.descent.specs.Stepped.{StepsTrack}
 use Rattle.descent.proofs.Backs.{opens-back, splits-back}
+use Rattle.descent.proofs.SoundSteps.{some-len, are-small}
 use Rattle.descent.proofs.Steps.{the-row, All-has, track-of, open-less, split-less, open-step, split-step, hands-out, place-is}
 use Rattle.descent.proofs.cuts.expand_row.Goals as goal
 
@@ -32,8 +33,8 @@ returns-in_err-readings-clause-handed g c =
     let s = All-has (StandsFor stands track.series) track.rows (held row) c.requires.of.stand is.there in
     hands-out (4 * row.seg.len) 112 (g.N.Nodes.handed c.args.source.now) (g.N.Nodes.handed c.readings.new.source) (let few = c.if-row-le16.true in omega arith) (c.readings.ensures.handed (place_of track.series (held row).row) s)
 
-pub open-requires : goal.open-requires
-open-requires g c =
+pub open-requires-clause-opened : goal.open-requires-clause-opened
+open-requires-clause-opened g c =
     let is = the-row c.args.table.now c.args.start c.in-Some.row c.requires.at c.in-Some.ensures.some in
     record { before = c.in-Some.row; there = is.there; closed = is.closed; same = refl }
 
@@ -112,8 +113,8 @@ children-requires g c =
     let stands = g.N.Nodes.stands c.args.nodes.now c.args.source.now in
     (place_of track.series (held row).row, All-has (StandsFor stands track.series) track.rows (held row) c.requires.of.stand is.there, c.if-row-le16.false)
 
-pub split-requires : goal.split-requires
-split-requires g c =
+pub split-requires-clause-halves : goal.split-requires-clause-halves
+split-requires-clause-halves g c =
     let track = c.args.table.now in
     let row = c.in-Some.row in
     let is = the-row track c.args.start row c.requires.at c.in-Some.ensures.some in
@@ -286,3 +287,44 @@ returns-clause-restored g c =
     let found = c.in-Some.ensures.some in
     let left = splits-back track.rows c.args.start (2 ^ half.0) row (held l) (held r) is.there is.starts is.closed found.alone at some full (omega arith) (omega arith) (omega arith) in
     subst (λ (t : Track (Held g.row.N-Id.Denot)). restored (held row) t.rows ≡ track.rows) (sym (c.split.ensures ∙ ap (λ k. record track { rows = replaced k (held l ∷ held r ∷ []) track.rows }) at)) left.restored
+
+pub open-requires-clause-small : goal.open-requires-clause-small
+open-requires-clause-small g c =
+    let track = c.args.table.now in
+    let row = c.in-Some.row in
+    let is = the-row track c.args.start row c.requires.at c.in-Some.ensures.some in
+    let stands = g.N.Nodes.stands c.args.nodes.now c.args.source.now in
+    let p = place_of track.series (held row).row in
+    let s = All-has (StandsFor stands track.series) track.rows (held row) c.requires.of.stand is.there in
+    let root = c.requires.of.rooted (some-len track (held row) c.in-Some.ensures.sound is.there) in
+    let n = c.in_ok-readings.ensures.len p s in
+    let few = c.if-row-le16.true in
+    let all : length c.readings.new.into ≡ 16 = search rules in
+    are-small track.greatest row.seg.len c.readings.new.into few (omega arith)
+    (λ i lt. rw root.2 (c.in_ok-readings.ensures.small p root.0 i s root.1 (omega arith)))
+
+pub split-requires-clause-left_sane : goal.split-requires-clause-left_sane
+split-requires-clause-left_sane g c =
+    let track = c.args.table.now in
+    let row = c.in-Some.row in
+    let is = the-row track c.args.start row c.requires.at c.in-Some.ensures.some in
+    let stands = g.N.Nodes.stands c.args.nodes.now c.args.source.now in
+    let p = place_of track.series (held row).row in
+    let st = All-has (StandsFor stands track.series) track.rows (held row) c.requires.of.stand is.there in
+    let root = c.requires.of.rooted (some-len track (held row) c.in-Some.ensures.sound is.there) in
+    let kids = c.in_ok-children in
+    let ls : c.closed-left.result.seg ≡ kids.children.left_seg = ap (λ k. k.seg) c.closed-left.ensures in
+    rw (ls, root.2) (kids.ensures.left_sane p root.0 st root.1)
+
+pub split-requires-clause-right_sane : goal.split-requires-clause-right_sane
+split-requires-clause-right_sane g c =
+    let track = c.args.table.now in
+    let row = c.in-Some.row in
+    let is = the-row track c.args.start row c.requires.at c.in-Some.ensures.some in
+    let stands = g.N.Nodes.stands c.args.nodes.now c.args.source.now in
+    let p = place_of track.series (held row).row in
+    let st = All-has (StandsFor stands track.series) track.rows (held row) c.requires.of.stand is.there in
+    let root = c.requires.of.rooted (some-len track (held row) c.in-Some.ensures.sound is.there) in
+    let kids = c.in_ok-children in
+    let rs : c.closed-right.result.seg ≡ kids.children.right_seg = ap (λ k. k.seg) c.closed-right.ensures in
+    rw (rs, root.2) (kids.ensures.right_sane p root.0 st root.1)

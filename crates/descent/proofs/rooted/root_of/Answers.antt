@@ -4,8 +4,8 @@ use Rattle.segment.specs.Nodes.{root_place, seg_at}
 use Rattle.descent.specs.Rows.{with_rows}
 use Rattle.descent.specs.Held.{row_in, head_of, IsTrackOf}
 use Rattle.descent.specs.Known.{root_head}
-use Rattle.descent.specs.Laid.{root_table}
-use Rattle.descent.proofs.RootLaws.{for_some, root-shown, root-track-of, root-head-of}
+use Rattle.descent.specs.Laid.{root_table, IsRootOf}
+use Rattle.descent.proofs.RootLaws.{for_some, root-shown, root-track-of, root-head-of, whole-root}
 use Rattle.descent.proofs.rooted.root_of.Goals as goal
 
 pub returns-clause-root : goal.returns-clause-root
@@ -37,3 +37,9 @@ returns-clause-head g c =
     let known = g.N.Nodes.roots c.root.new.self in
     let is : c.in_ok-table.table ≡ root_table c.args.series c.args.name n o = c.in_ok-table.ensures ∙ ap (λ k. root_table c.args.series c.args.name k o) c.readings_len-len.ensures.value in
     ap head_of is ∙ root-head-of lengths known c.args.series c.args.name n o refl c.in_ok-root.ensures.none c.in_ok-root.ensures.known ∙ ap (λ ls. root_head ls known c.args.series c.args.name) (sym c.root.ensures.lengths)
+
+pub of_root-requires-clause-whole : goal.of_root-requires-clause-whole
+of_root-requires-clause-whole g c =
+    let e = c.in_ok-root.ensures in
+    let n = slice_index (g.N.Nodes.lengths c.args.nodes.now) c.args.series in
+    subst (λ k. IsRootOf k c.in_ok-root.root) (sym c.readings_len-len.ensures.value) (whole-root n c.in_ok-root.root e.none e.starts e.spans e.sane)

@@ -1,13 +1,15 @@
 use Rattle.std.proofs.Common.{◌≡◌, Some, arith, ◌<◌, refl, sym, ap, subst, ◌∙◌, length, get_or, set, List}
 use Rattle.std.proofs.lemmas.List.{length-set}
 use Rattle.std.proofs.lemmas.List.Elements.{All-set, All-weaker}
-use Rattle.descent.specs.Rows.{Track}
-use Rattle.descent.specs.Held.{head_of, heads, CutView, Held, IsClosedAt, IsTrackOf, AreTracksOf, shown, steps_in, steps_left}
+use Rattle.descent.specs.Rows.{Track, with_rows}
+use Rattle.descent.specs.Known.{AreApart}
+use Rattle.descent.specs.Sound.{IsSoundTrack}
+use Rattle.descent.specs.Held.{row_in, head_of, heads, CutView, Held, IsClosedAt, IsTrackOf, AreTracksOf, shown, steps_in, steps_left}
 use Rattle.descent.specs.Laid.{held, restored}
 use Rattle.descent.specs.Stepped.{IsClosedFrom}
 use Rattle.descent.proofs.Steps.{track-later}
-use Rattle.descent.proofs.Tracks.{has-at, closed-from, rising-set, heads-set, steps_left-set, expanded-at}
-use Rattle.descent.proofs.Backs.{back-at, restored-at}
+use Rattle.descent.proofs.Tracks.{has-at, closed-from, names-set, rising-set, heads-set, steps_left-set, expanded-at}
+use Rattle.descent.proofs.Backs.{back-at, restored-at, whole-again}
 use Rattle.descent.proofs.cuts.Cut.expand.Goals as goal
 
 pub unreachable-requires : goal.unreachable-requires
@@ -38,7 +40,9 @@ invariant_of-self-2 g c =
     record {
       few = omega (arith, c.self.invariant.few, n);
       rising = rising-set 0 xs k new t c.self.invariant.rising lt (ap (λ (q : Track (Held g.row.I.Denot)). q.series) c.expand_row.ensures.same ∙ ap (λ (q : Track (Held g.row.I.Denot)). q.series) c.index_mut.ensures.value);
-      back = back-at xs k c.in_ok-row.row new lt c.in_ok-row.ensures.back;
+      apart = subst AreApart (sym (names-set xs k new t lt (ap (λ (q : Track (Held g.row.I.Denot)). q.name) c.expand_row.ensures.same ∙ ap (λ (q : Track (Held g.row.I.Denot)). q.name) c.index_mut.ensures.value))) c.self.invariant.apart;
+      back = back-at xs k c.in_ok-row.row new lt c.in_ok-row.ensures.back
+          (subst (λ (q : Track (Held g.row.I.Denot)). IsSoundTrack (with_rows row_in q)) (sym (whole-again t new (restored (held c.in_ok-row.row) new.rows) c.expand_row.ensures.same c.in_ok-row.ensures.restored)) c.expand_row.ensures.sound);
     }
 
 pub returns-clause-step : goal.returns-clause-step

@@ -1,11 +1,13 @@
 use Rattle.std.proofs.Common.{◌≡◌, ◌<◌, ◌≤◌, List, Option, None, Some, length, set, get_or, sym, ap, subst, ◌∙◌, arith}
 use Rattle.std.proofs.lemmas.List.{length-set}
-use Rattle.descent.specs.Rows.{Track}
+use Rattle.descent.specs.Rows.{Track, with_rows}
+use Rattle.descent.specs.Known.{AreApart}
+use Rattle.descent.specs.Sound.{IsSoundTrack}
 use Rattle.descent.specs.CutFields.{before_of, restored_at, CanBeTakenBack}
-use Rattle.descent.specs.Held.{Held, CutView}
+use Rattle.descent.specs.Held.{Held, CutView, row_in}
 use Rattle.descent.specs.Laid.{held, restored, CanGoBack}
 use Rattle.descent.proofs.Backs.{can-at, set-restored}
-use Rattle.descent.proofs.Tracks.{rising-set}
+use Rattle.descent.proofs.Tracks.{names-set, rising-set}
 use Rattle.descent.proofs.cuts.Cut.take_back.Goals as goal
 
 pub index_mut-requires : goal.index_mut-requires
@@ -16,13 +18,21 @@ index_mut-requires g c =
     let ok = c.self.inside.tables.ok.0 in
     omega arith
 
-pub put_back-requires : goal.put_back-requires
-put_back-requires g c =
+pub put_back-requires-clause-back : goal.put_back-requires-clause-back
+put_back-requires-clause-back g c =
     let xs = c.self.inside.tables.items in
     let ch = c.in-Some.change in
     let t = c.index_mut.result.now in
     let can = (can-at xs ch.table ch.row (subst (CanBeTakenBack xs) c.in-Some.is c.self.invariant.back)).1 t in
-    subst (λ (u : Track (Held g.row.I.Denot)). CanGoBack ch.row u.rows) (sym c.index_mut.ensures.value) can
+    subst (λ (u : Track (Held g.row.I.Denot)). CanGoBack ch.row u.rows) (sym c.index_mut.ensures.value) can.0
+
+pub put_back-requires-clause-sound : goal.put_back-requires-clause-sound
+put_back-requires-clause-sound g c =
+    let xs = c.self.inside.tables.items in
+    let ch = c.in-Some.change in
+    let t = c.index_mut.result.now in
+    let can = (can-at xs ch.table ch.row (subst (CanBeTakenBack xs) c.in-Some.is c.self.invariant.back)).1 t in
+    subst (λ (u : Track (Held g.row.I.Denot)). IsSoundTrack (with_rows row_in (let v : Track (Held g.row.I.Denot) = record u { rows = restored (held ch.row) u.rows } in v))) (sym c.index_mut.ensures.value) can.1
 
 pub invariant_of-self : goal.invariant_of-self
 invariant_of-self g c =
@@ -34,6 +44,7 @@ invariant_of-self g c =
     record {
       few = omega (arith, c.self.invariant.few, n);
       rising = rising-set 0 xs ch.table c.put_back.new.self t c.self.invariant.rising lt (ap (λ (q : Track (Held g.row.I.Denot)). q.series) c.put_back.ensures ∙ ap (λ (q : Track (Held g.row.I.Denot)). q.series) c.index_mut.ensures.value);
+      apart = subst AreApart (sym (names-set xs ch.table c.put_back.new.self t lt (ap (λ (q : Track (Held g.row.I.Denot)). q.name) c.put_back.ensures ∙ ap (λ (q : Track (Held g.row.I.Denot)). q.name) c.index_mut.ensures.value))) c.self.invariant.apart;
       back = tt;
     }
 

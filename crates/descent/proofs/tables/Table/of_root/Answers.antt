@@ -1,11 +1,12 @@
 use Rattle.std.proofs.lemmas.List.{length-set, length-replicate}
-use Rattle.std.specs.Prelude.{replicate}
-use Rattle.std.proofs.Common.{◌≡◌, Some, set, length, ap, sym, ◌∙◌, map, List, [], ◌∷◌, None, arith}
+use Rattle.std.specs.Prelude.{replicate, Option}
+use Rattle.std.proofs.Common.{◌≡◌, refl, Some, set, length, ap, sym, ◌∙◌, map, List, [], ◌∷◌, None, arith}
 use Rattle.descent.specs.declared.tables.Row.{Row}
 use Rattle.descent.specs.Rows.{Track}
 use Rattle.descent.specs.Held.{Held}
 use Rattle.descent.specs.Laid.{blocks, held, present, IsWholeRoot, root_table}
 use Rattle.descent.proofs.Places.{root-rows}
+use Rattle.descent.proofs.SoundSteps.{root-sound, empty-sound}
 use Rattle.descent.proofs.tables.Table.of_root.Goals as goal
 
 pub invariant_of-result-2 : goal.invariant_of-result-2
@@ -16,7 +17,10 @@ invariant_of-result-2 g c =
     let r = root-rows c.args.len c.div_ceil.result row e w.some w.starts w.spans in
     let few = c.requires.few in
     let n : length (set (replicate c.div_ceil.result None) 0 (Some row)) ≡ c.div_ceil.result = length-set (replicate c.div_ceil.result None) 0 (Some row) ∙ length-replicate c.div_ceil.result None in
-    record { laid = rw (c.put_one.ensures, c.in_ok-places.ensures) r.0; few = rw (c.put_one.ensures, c.in_ok-places.ensures) (omega arith) }
+    let shown : present c.put_one.new.places.items ≡ row ∷ [] = rw (c.put_one.ensures, c.in_ok-places.ensures) r.1 in
+    let rows = ap (λ (rs : List (Row g.row.I.Denot)). map held rs) shown in
+    let track : Track (Held g.row.I.Denot) = record { series = c.args.series; name = c.args.name; len = c.args.len; greatest = c.in-Some.node.1.d; rows = map held (present c.put_one.new.places.items) } in
+    record { laid = rw (c.put_one.ensures, c.in_ok-places.ensures) r.0; few = rw (c.put_one.ensures, c.in_ok-places.ensures) (omega arith); sound = root-sound track row rows refl few (rw w.spans w.some) w.starts w.spans w.sane }
 
 pub returns : goal.returns
 returns g c =
@@ -27,3 +31,10 @@ returns g c =
     let rows : present c.put_one.new.places.items ≡ row ∷ [] = rw (c.put_one.ensures, c.in_ok-places.ensures) r.1 in
     ap (λ (rs : List (Row g.row.I.Denot)). let t : Track (Held g.row.I.Denot) = record { series = c.args.series; name = c.args.name; len = c.args.len; greatest = c.in-Some.node.1.d; rows = map held rs } in t) rows
     ∙ sym (ap (root_table c.args.series c.args.name c.args.len) c.in-Some.is)
+
+pub invariant_of-result : goal.invariant_of-result
+invariant_of-result g c =
+    let len : c.args.len ≡ 0 = rw c.in_default.is at c.requires.whole in
+    let e : c.new.result.items ≡ [] = c.new.ensures.items in
+    let track : Track (Held g.row.I.Denot) = record { series = c.args.series; name = c.args.name; len = c.args.len; greatest = 0; rows = map held (present c.new.result.items) } in
+    record { laid = rw e tt; few = rw e (omega arith); sound = empty-sound track (ap (λ (xs : List (Option (Row g.row.I.Denot))). map held (present xs)) e) len }

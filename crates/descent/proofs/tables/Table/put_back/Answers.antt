@@ -1,8 +1,9 @@
 use Rattle.std.proofs.Common.{◌≡◌, ◌/◌, ◌+◌, ◌<◌, List, Option, None, Some, length, set, get_or, map, sym, ap, ap₂, subst, ◌∙◌, arith}
 use Rattle.std.proofs.lemmas.List.{length-set}
 use Rattle.descent.specs.declared.tables.Row.{Row}
-use Rattle.descent.specs.Held.{Held}
-use Rattle.descent.specs.Rows.{Track}
+use Rattle.descent.specs.Held.{Held, row_in}
+use Rattle.descent.specs.Rows.{Track, with_rows}
+use Rattle.descent.specs.Sound.{IsSoundTrack}
 use Rattle.descent.specs.Laid.{held, present, restored}
 use Rattle.descent.proofs.Places.{AreRows}
 use Rattle.descent.proofs.Backs.{goes-back}
@@ -13,7 +14,7 @@ unreachable-requires g c =
     let v = ap (λ (t : Track (Held g.row.I.Denot)). t.rows) c.self.view_is in
     let xs = c.self.inside.places.items in
     let a : AreRows xs c.args.self.now.rows = record { laid = c.self.invariant.laid; view = v } in
-    let b = goes-back xs c.args.self.now.rows c.args.row a c.requires in
+    let b = goes-back xs c.args.self.now.rows c.args.row a c.requires.back in
     let e : None ≡ get_or xs (c.args.row.seg.start / 16) None = c.in_default.ensures ∙ ap (λ (ys : List (Option (Row g.row.I.Denot))). get_or ys (c.args.row.seg.start / 16) None) c.deref.ensures.value in
     let bad : None ≡ Some b.left = e ∙ b.found in
     cc
@@ -23,21 +24,26 @@ invariant_of-self g c =
     let v = ap (λ (t : Track (Held g.row.I.Denot)). t.rows) c.self.view_is in
     let xs = c.self.inside.places.items in
     let a : AreRows xs c.args.self.now.rows = record { laid = c.self.invariant.laid; view = v } in
-    let b = goes-back xs c.args.self.now.rows c.args.row a c.requires in
+    let b = goes-back xs c.args.self.now.rows c.args.row a c.requires.back in
     let i = c.args.row.seg.start / 16 in
     let e : Some c.in-Some.left ≡ get_or xs i None = c.in-Some.ensures ∙ ap (λ (ys : List (Option (Row g.row.I.Denot))). get_or ys i None) c.deref.ensures.value in
     let both : Some c.in-Some.left ≡ Some b.left = e ∙ b.found in
     let same : b.left ≡ c.in-Some.left = cc in
     let one = b.one (ap (λ (r : Row g.row.I.Denot). r.seg.len) same ∙ c.if-left-row.true) in
     let n = length-set xs i (Some c.args.row) in
-    record { laid = rw c.put_one.ensures one.laid; few = rw c.put_one.ensures (omega (arith, c.self.invariant.few, n)) }
+    let view = ap₂ (λ (t : Track (Held g.row.I.Denot)) (rs : List (Held g.row.I.Denot)). let u : Track (Held g.row.I.Denot) = record t { rows = rs } in u) c.self.view_is (ap (λ ys. map held (present ys)) c.put_one.ensures ∙ one.view) in
+    record {
+      laid = rw c.put_one.ensures one.laid;
+      few = rw c.put_one.ensures (omega (arith, c.self.invariant.few, n));
+      sound = subst (λ (t : Track (Held g.row.I.Denot)). IsSoundTrack (with_rows row_in t)) (sym view) c.requires.sound;
+    }
 
 pub returns-then-left-row : goal.returns-then-left-row
 returns-then-left-row g c =
     let v = ap (λ (t : Track (Held g.row.I.Denot)). t.rows) c.self.view_is in
     let xs = c.self.inside.places.items in
     let a : AreRows xs c.args.self.now.rows = record { laid = c.self.invariant.laid; view = v } in
-    let b = goes-back xs c.args.self.now.rows c.args.row a c.requires in
+    let b = goes-back xs c.args.self.now.rows c.args.row a c.requires.back in
     let i = c.args.row.seg.start / 16 in
     let e : Some c.in-Some.left ≡ get_or xs i None = c.in-Some.ensures ∙ ap (λ (ys : List (Option (Row g.row.I.Denot))). get_or ys i None) c.deref.ensures.value in
     let both : Some c.in-Some.left ≡ Some b.left = e ∙ b.found in
@@ -51,7 +57,7 @@ join_two-requires-clause-second g c =
     let v = ap (λ (t : Track (Held g.row.I.Denot)). t.rows) c.self.view_is in
     let xs = c.self.inside.places.items in
     let a : AreRows xs c.args.self.now.rows = record { laid = c.self.invariant.laid; view = v } in
-    let b = goes-back xs c.args.self.now.rows c.args.row a c.requires in
+    let b = goes-back xs c.args.self.now.rows c.args.row a c.requires.back in
     let i = c.args.row.seg.start / 16 in
     let e : Some c.in-Some.left ≡ get_or xs i None = c.in-Some.ensures ∙ ap (λ (ys : List (Option (Row g.row.I.Denot))). get_or ys i None) c.deref.ensures.value in
     let both : Some c.in-Some.left ≡ Some b.left = e ∙ b.found in
@@ -65,7 +71,7 @@ invariant_of-self-else-left-row g c =
     let v = ap (λ (t : Track (Held g.row.I.Denot)). t.rows) c.self.view_is in
     let xs = c.self.inside.places.items in
     let a : AreRows xs c.args.self.now.rows = record { laid = c.self.invariant.laid; view = v } in
-    let b = goes-back xs c.args.self.now.rows c.args.row a c.requires in
+    let b = goes-back xs c.args.self.now.rows c.args.row a c.requires.back in
     let i = c.args.row.seg.start / 16 in
     let e : Some c.in-Some.left ≡ get_or xs i None = c.in-Some.ensures ∙ ap (λ (ys : List (Option (Row g.row.I.Denot))). get_or ys i None) c.deref.ensures.value in
     let both : Some c.in-Some.left ≡ Some b.left = e ∙ b.found in
@@ -74,14 +80,19 @@ invariant_of-self-else-left-row g c =
     let two = subst (λ (r : Row g.row.I.Denot). AreRows (set (set xs i (Some c.args.row)) (i + r.seg.len / 16) None) (restored (held c.args.row) c.args.self.now.rows)) same (b.two (λ q. c.if-left-row.false (sym len ∙ q))).0 in
     let n = length-set xs i (Some c.args.row) in
     let m = length-set (set xs i (Some c.args.row)) (i + c.in-Some.left.seg.len / 16) None in
-    record { laid = rw c.join_two.ensures two.laid; few = rw c.join_two.ensures (omega (arith, c.self.invariant.few, n, m)) }
+    let view = ap₂ (λ (t : Track (Held g.row.I.Denot)) (rs : List (Held g.row.I.Denot)). let u : Track (Held g.row.I.Denot) = record t { rows = rs } in u) c.self.view_is (ap (λ ys. map held (present ys)) c.join_two.ensures ∙ two.view) in
+    record {
+      laid = rw c.join_two.ensures two.laid;
+      few = rw c.join_two.ensures (omega (arith, c.self.invariant.few, n, m));
+      sound = subst (λ (t : Track (Held g.row.I.Denot)). IsSoundTrack (with_rows row_in t)) (sym view) c.requires.sound;
+    }
 
 pub returns-else-left-row : goal.returns-else-left-row
 returns-else-left-row g c =
     let v = ap (λ (t : Track (Held g.row.I.Denot)). t.rows) c.self.view_is in
     let xs = c.self.inside.places.items in
     let a : AreRows xs c.args.self.now.rows = record { laid = c.self.invariant.laid; view = v } in
-    let b = goes-back xs c.args.self.now.rows c.args.row a c.requires in
+    let b = goes-back xs c.args.self.now.rows c.args.row a c.requires.back in
     let i = c.args.row.seg.start / 16 in
     let e : Some c.in-Some.left ≡ get_or xs i None = c.in-Some.ensures ∙ ap (λ (ys : List (Option (Row g.row.I.Denot))). get_or ys i None) c.deref.ensures.value in
     let both : Some c.in-Some.left ≡ Some b.left = e ∙ b.found in

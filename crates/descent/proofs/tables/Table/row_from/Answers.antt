@@ -1,7 +1,8 @@
-use Rattle.std.proofs.Common.{◌≡◌, ◌/◌, List, ap, get_or, None, Some, Option, ◌∙◌, sym}
+use Rattle.std.proofs.Common.{◌≡◌, ◌/◌, List, ap, get_or, None, Some, Option, ◌∙◌, sym, subst}
 use Rattle.descent.specs.declared.tables.Row.{Row}
-use Rattle.descent.specs.Held.{Held}
-use Rattle.descent.specs.Rows.{Track}
+use Rattle.descent.specs.Held.{Held, row_in}
+use Rattle.descent.specs.Rows.{Track, with_rows}
+use Rattle.descent.specs.Sound.{IsSoundTrack}
 use Rattle.descent.proofs.Places.{AreRows, some-from, none-from}
 use Rattle.descent.proofs.tables.Table.row_from.Goals as goal
 
@@ -30,3 +31,12 @@ returns-clause-some g c =
     let row = c.in-Some.row in
     let e : Some row ≡ get_or xs (c.args.start / 16) None = c.in-Some.ensures ∙ ap (λ (ys : List (Option (Row g.row.I.Denot))). get_or ys (c.args.start / 16) None) c.deref.ensures.value in
     some-from c.args.start xs c.args.self.now.rows row a (sym e) c.if-row-start.false
+
+pub returns-clause-sound : goal.returns-clause-sound
+returns-clause-sound g c = subst (λ (t : Track (Held g.row.I.Denot)). IsSoundTrack (with_rows row_in t)) c.self.view_is c.self.invariant.sound
+
+pub returns-in_default-clause-sound : goal.returns-in_default-clause-sound
+returns-in_default-clause-sound g c = subst (λ (t : Track (Held g.row.I.Denot)). IsSoundTrack (with_rows row_in t)) c.self.view_is c.self.invariant.sound
+
+pub returns-then-row-start-clause-sound : goal.returns-then-row-start-clause-sound
+returns-then-row-start-clause-sound g c = subst (λ (t : Track (Held g.row.I.Denot)). IsSoundTrack (with_rows row_in t)) c.self.view_is c.self.invariant.sound

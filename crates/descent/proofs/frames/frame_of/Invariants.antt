@@ -1,0 +1,12 @@
+use Rattle.std.proofs.Common.{◌≡◌, take}
+use Rattle.std.specs.List.{All}
+use Rattle.descent.specs.Rows.{entries}
+use Rattle.descent.specs.Held.{shown}
+use Rattle.descent.specs.Sound.{IsSoundTrack}
+use Rattle.descent.proofs.frames.frame_of.Given as goal
+
+abbrev pub invariant-loop-i : goal.invariant-loop-i
+invariant-loop-i g l = record {
+  entries : l.frame ≡ entries (shown (take l.i l.tables));
+  sound : All IsSoundTrack (shown (take l.i l.tables));
+}

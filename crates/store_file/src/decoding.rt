@@ -15,7 +15,7 @@ use crate::{Entry, Fixed, Store, Stored, read_fixed};
 use expr::Name;
 use indexmap::IndexMap;
 use seg_tree::{Arena, Tree};
-use std::alloc::Global;
+use std::alloc::{AllocError, AllocFailed, Global};
 use tree_file::tree_bytes;
 
 #[cfg(test)]
@@ -29,6 +29,26 @@ pub enum StoreErr {
     /// The node of a series, by its start and its length, isn't true of its readings.
     BadNode(Name, u32, u32),
     Memory,
+}
+
+impl From<AllocError> for StoreErr {
+    ghost use Rattle.store_file.specs.declared.decoding.StoreErr.TheVariants.{Memory};
+
+    ghost from_gives = { λ _ r. r ≡ Memory };
+
+    fn from(_: AllocError) -> StoreErr {
+        StoreErr::Memory
+    }
+}
+
+impl<T: Drop> From<AllocFailed<T>> for StoreErr {
+    ghost use Rattle.store_file.specs.declared.decoding.StoreErr.TheVariants.{Memory};
+
+    ghost from_gives = { λ _ r. r ≡ Memory };
+
+    fn from(_: AllocFailed<T>) -> StoreErr {
+        StoreErr::Memory
+    }
 }
 
 /// The store for which bytes stand, with an arena of limit 2^24, or the first refusal.
@@ -162,10 +182,8 @@ fn add_last(series: &mut IndexMap<Name, Stored>, name: Name, tree: Tree) -> Resu
     ensures ok { OnOk result (series.new.entries ≡ series.old.entries ++ (name, record { tree = tree }) ∷ []) }
     ensures err { IfErr result (λ e. e ≡ StoreErr.Memory) }
 {
-    match series.insert(name, Stored { tree }) {
-        Ok(_) => Ok(()),
-        Err(_) => Err(StoreErr::Memory),
-    }
+    let _ = series.insert(name, Stored { tree })?;
+    Ok(())
 }
 
 /// Bytes decode exactly where they are those of a store, and then to that one.

@@ -28,10 +28,7 @@ pub(crate) fn read_entries(alloc: Global, bytes: &[u8], count: u8) -> Result<Vec
             return Err(StoreErr::NotAStore(place as u64));
         }
         place += len_of(entry);
-        match entries.push(entry) {
-            Ok(()) => {}
-            Err(_) => return Err(StoreErr::Memory),
-        }
+        entries.push(entry)?;
     }
     Ok(entries)
 }

@@ -29,10 +29,7 @@ impl Store {
                 n: stored.tree.n,
                 d: greatest_in(&self.arena, stored.tree),
             };
-            match facts.push(fact) {
-                Ok(()) => {}
-                Err(_) => return Err(Memory),
-            }
+            facts.push(fact)?;
         }
         Ok(facts)
     }

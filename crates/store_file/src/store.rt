@@ -62,13 +62,9 @@ impl Store {
     pub fn header(&self) -> Result<Vec<u8>, Memory>
         ensures { IfOk result (λ bytes. bytes.items ≡ header_of (store_value self.now)) }
     {
-        let Ok(mut bytes) = Vec::with_capacity(self.alloc, HEADER) else {
-            return Err(Memory)
-        };
-        match push_header(self.scale, self.degree, &self.series, &mut bytes) {
-            Ok(()) => Ok(bytes),
-            Err(_) => Err(Memory),
-        }
+        let mut bytes = Vec::with_capacity(self.alloc, HEADER)?;
+        push_header(self.scale, self.degree, &self.series, &mut bytes)?;
+        Ok(bytes)
     }
 
     /// The store's bytes: the header, and the trees in the same order.
@@ -77,13 +73,8 @@ impl Store {
         ensures value { IsStoreValue (store_value self.now) }
     {
         let size = HEADER + trees_len(&self.series);
-        let Ok(mut bytes) = Vec::with_capacity(self.alloc, size) else {
-            return Err(Memory)
-        };
-        match push_header(self.scale, self.degree, &self.series, &mut bytes) {
-            Ok(()) => {}
-            Err(_) => return Err(Memory),
-        }
+        let mut bytes = Vec::with_capacity(self.alloc, size)?;
+        push_header(self.scale, self.degree, &self.series, &mut bytes)?;
         push_trees(&self.series, &self.arena, &mut bytes)?;
         Ok(bytes)
     }

@@ -37,12 +37,9 @@ pub(crate) fn read_tree(
     ensures degree { arena.new.degree ≡ arena.old.degree }
     ensures limit { arena.new.limit ≡ arena.old.limit }
 {
-    let mut segs = Vec::new(alloc);
-    let mut xs = Vec::new(alloc);
-    match push_series_nodes(bytes, n, &mut segs, &mut xs) {
-        Ok(()) => {}
-        Err(_) => return Err(StoreErr::Memory),
-    }
+    let mut segs = Vec::with_capacity(alloc, 2 * n.div_ceil(16) as usize)?;
+    let mut xs = Vec::with_capacity(alloc, n as usize)?;
+    push_series_nodes(bytes, n, &mut segs, &mut xs)?;
     if let Some(seg) = first_bad(&segs, &xs) {
         return Err(StoreErr::BadNode(name, seg.start, seg.len));
     }

@@ -42,10 +42,8 @@ fn push_tree(arena: &Arena, tree: Tree, into: &mut Vec<u8>) -> Result<(), Memory
     let Some(root) = tree.root else {
         return Ok(());
     };
-    match push_nodes(arena, root, 0, tree.n, into) {
-        Ok(()) => Ok(()),
-        Err(_) => Err(Memory),
-    }
+    push_nodes(arena, root, 0, tree.n, into)?;
+    Ok(())
 }
 
 /// Appends the nodes of the tree below a node that covers `len` readings from `start` on, in preorder, each leaf's

@@ -3,7 +3,9 @@ ghost use Rattle.std.specs.List.{All, find};
 ghost use Rattle.segment.specs.Measure.{greatest_reading, curve_of, is_bounded, AreReadings, IsBounded};
 ghost use Rattle.store_file.specs.Good.{is_measured, is_good, own_readings, is_bad, IsOver};
 
-use segment::{Curve, GREATEST_READING, Measures, Seg, greatest_reading, is_bounded, measure};
+use segment::{
+    Curve, GREATEST_READING, Measures, Seg, greatest_estimate, greatest_reading, is_bounded, miss,
+};
 
 /// The first segment that isn't true of its readings, of those of its series.
 pub(crate) fn first_bad(segs: &[Seg], xs: &[i32]) -> Option<Seg>
@@ -50,15 +52,17 @@ fn is_good(seg: &Seg, xs: &[i32]) -> bool
     if !is_bounded(&curve, seg.len, d) {
         return false;
     }
-    is_measured(seg, xs)
+    is_measured(seg, &curve, xs, d)
 }
 
-/// Whether a segment tells the measures of its curve over the readings.
-fn is_measured(seg: &Seg, xs: &[i32]) -> bool
+/// Whether a segment tells the measures of its curve over the readings, of which `d` is the greatest magnitude.
+fn is_measured(seg: &Seg, curve: &Curve, xs: &[i32], d: u64) -> bool
     requires some { 0 < length xs.now }
     requires few { length xs.now ≤ 2 ^ 20 }
     requires small { AreReadings xs.now }
-    requires bounded { IsBounded (curve_of seg.now) (length xs.now) (greatest_reading xs.now) }
+    requires curve { curve.now ≡ curve_of seg.now }
+    requires bounded { IsBounded curve.now (length xs.now) (greatest_reading xs.now) }
+    requires most { d ≡ greatest_reading xs.now }
     requires len { seg.now.len ≡ length xs.now }
     ensures { result ≡ is_measured xs.now seg.now }
 {
@@ -67,5 +71,7 @@ fn is_measured(seg: &Seg, xs: &[i32]) -> bool
         d: seg.d,
         f: seg.f,
     };
-    told == measure(xs, seg.a, seg.b, seg.c)
+    let l = miss(xs, curve);
+    let f = greatest_estimate(curve, xs.len());
+    told == Measures { l, d, f }
 }

@@ -25,7 +25,7 @@ entries-preserved c =
     let some : first_entry (drop c.entries.place c.args.bytes.now) ≡ Some c.in-Some.entry = sym c.entry_at.ensures ∙ c.in-Some.is in
     let new : has_name (names_of c.entries.entries.items) c.in-Some.entry.name ≡ false =
     ap (λ (es : List Entry). has_name (names_of es) c.in-Some.entry.name) (sym c.deref.ensures.value) ∙ sym c.has.ensures ∙ c.if-has.false in
-    let pushed : c.push.new.self.items ≡ c.entries.entries.items ++ c.in-Some.entry ∷ [] = c.in-Ok.ensures.items in
+    let pushed : c.push.new.self.items ≡ c.entries.entries.items ++ c.in-Some.entry ∷ [] = c.in_ok-push.ensures.items in
     let room = first_entry-size (drop c.entries.place c.args.bytes.now) c.in-Some.entry some in
     rw (c.len_of-place.ensures.value, pushed) (record {
       within = omega (arith, room, length-drop c.entries.place c.args.bytes.now, c.entries.invariant.within);

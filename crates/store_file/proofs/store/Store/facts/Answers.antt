@@ -18,7 +18,7 @@ greatest_in-requires c = facts-first c.self.inside.arena.nodes c.loop-i.i c.self
 pub loop-i-preserved : goal.loop-i-preserved
 loop-i-preserved c =
     facts-step c.self.inside.arena.nodes c.loop-i.i c.self.inside.series.entries (c.entry_at-name.result.0, c.entry_at-name.result.1) _ c.loop-i.facts.items _ _ c.entry_at-name.ensures c.loop-i.invariant
-    (record { name = refl; count = refl; greatest = c.greatest_in.ensures }) c.in-Ok.ensures.items
+    (record { name = refl; count = refl; greatest = c.greatest_in.ensures }) c.in_ok-push.ensures.items
 
 pub returns-clause-facts : goal.returns-clause-facts
 returns-clause-facts c =

@@ -49,7 +49,7 @@ fn reads_the_parts_of_a_header(rt: HostRuntime) -> Result<(), Fail> {
 }
 
 /// Whether all are readings.
-fn are_readings(xs: &[i32]) -> bool
+pub(crate) fn are_readings(xs: &[i32]) -> bool
     ensures { result ≡ true → AreReadings xs.now }
 {
     for x in xs {
@@ -64,7 +64,7 @@ fn are_readings(xs: &[i32]) -> bool
 fn readings() -> [i32; 151] {
     let mut xs = [0; 151];
     for i in 0..151u8 {
-        xs[i as usize] = i32::from(i) * 389 % 1009 - 500;
+        xs[i as usize] = i32::from(u16::from(i) * 389 % 1009) - 500;
     }
     xs
 }
@@ -82,9 +82,12 @@ fn appended(alloc: Global, xs: &[i32], counts: &[usize]) -> Result<Vec<u8>, Fail
     for count in counts {
         let next = rest.get(..*count).ok_or("so many readings")?;
         rest = rest.get(*count..).ok_or("the others")?;
-        if !are_readings(next) || store.append_series(&name, next).is_err() {
-            return Err(Fail::from("an append"));
+        if !are_readings(next) {
+            return Err(Fail::from("readings"));
         }
+        let Ok(_) = store.append_series(&name, next) else {
+            return Err(Fail::from("an append"))
+        };
     }
     let Ok(bytes) = store.encode() else {
         return Err(Fail::from("its bytes"))
@@ -113,19 +116,24 @@ fn appends_in_any_order_are_one_load(rt: HostRuntime) -> Result<(), Fail> {
 #[test]
 fn appends_as_far_as_the_arena_goes(rt: HostRuntime) -> Result<(), Fail> {
     let mut turns = [0; 32];
-    for i in 0..16usize {
-        turns[2 * i + 1] = 10;
+    for i in 0..16u8 {
+        turns[2 * i as usize + 1] = 10;
     }
     assert!(rt; are_readings(&turns));
     let name = Name::of(b"x").ok_or("a name")?;
-    for (limit, answer, used) in [(4, Err(SeriesErr::ArenaFull), 3), (5, Ok(33), 5)] {
-        let Ok(mut store) = Store::new(rt.alloc(), 0, 0, limit) else {
-            return Err(Fail::from("a store"))
-        };
-        assert_eq!(rt; store.append_series(&name, &[5]), Err(SeriesErr::Unknown));
-        assert_eq!(rt; store.add_series(name, &turns), Ok(()));
-        assert_eq!(rt; store.append_series(&name, &[5]), answer);
-        assert_eq!(rt; store.arena.used(), used);
-    }
+    let Ok(mut small) = Store::new(rt.alloc(), 0, 0, 4) else {
+        return Err(Fail::from("a store"))
+    };
+    assert_eq!(rt; small.append_series(&name, &[5]), Err(SeriesErr::Unknown));
+    assert_eq!(rt; small.add_series(name, &turns), Ok(()));
+    assert_eq!(rt; small.append_series(&name, &[5]), Err(SeriesErr::ArenaFull));
+    assert_eq!(rt; small.arena.used(), 3);
+
+    let Ok(mut store) = Store::new(rt.alloc(), 0, 0, 5) else {
+        return Err(Fail::from("a store"))
+    };
+    assert_eq!(rt; store.add_series(name, &turns), Ok(()));
+    assert_eq!(rt; store.append_series(&name, &[5]), Ok(33));
+    assert_eq!(rt; store.arena.used(), 5);
     Ok(())
 }

@@ -1,7 +1,5 @@
-ghost use Rattle.std.specs.Prelude.{◌≡◌, true};
-ghost use Rattle.segment.specs.Measure.{AreReadings};
-
 use super::*;
+use crate::tests::are_readings;
 use std::test::Fail;
 
 /// 32 readings, 0 and 10 in turn.
@@ -9,18 +7,6 @@ const TURNS: [i32; 32] = [
     0, 10, 0, 10, 0, 10, 0, 10, 0, 10, 0, 10, 0, 10, 0, 10, 0, 10, 0, 10, 0, 10, 0, 10, 0, 10, 0,
     10, 0, 10, 0, 10,
 ];
-
-/// Whether all are readings.
-fn are_readings(xs: &[i32]) -> bool
-    ensures { result ≡ true → AreReadings xs.now }
-{
-    for x in xs {
-        if x.unsigned_abs() > segment::GREATEST_READING {
-            return false;
-        }
-    }
-    true
-}
 
 /// The bytes of a store whose one series `x` has these readings.
 fn bytes_of(alloc: Global, xs: &[i32]) -> Result<Vec<u8>, Fail> {

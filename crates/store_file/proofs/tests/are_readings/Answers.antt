@@ -1,6 +1,6 @@
 use Rattle.std.proofs.Common.{arith}
 use Rattle.segment.proofs.ReadingLaws.{AreReadings-within}
-use Rattle.store_file.proofs.decoding.tests.are_readings.Goals as goal
+use Rattle.store_file.proofs.tests.are_readings.Goals as goal
 
 pub returns : goal.returns
 returns c = λ _. AreReadings-within c.args.xs.now (λ i lt. c.loop-x.invariant i (omega arith))

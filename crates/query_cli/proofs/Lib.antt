@@ -2,6 +2,7 @@ pub mod CommandLaws
 pub mod Containment
 pub mod DescentLaws
 pub mod ExpandLaws
+pub mod GeneratedLaws
 pub mod NodeLaws
 pub mod NumberLaws
 pub mod PlaceLaws

@@ -1,6 +1,7 @@
 pub mod Commands
 pub mod Cuts
 pub mod Descents
+pub mod Generated
 pub mod Laws
 pub mod Numbers
 pub mod Reading

@@ -4,6 +4,7 @@
 mod commands;
 mod cut;
 mod descent;
+mod generated;
 mod laws;
 mod numbers;
 mod refusals;

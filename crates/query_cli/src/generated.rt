@@ -1,6 +1,6 @@
 //! Readings that a seed determines.
 
-ghost use Rattle.std.specs.Prelude.{◌≡◌, ◌+◌, ◌*◌, ◌≤◌, ◌^◌, pos, ◌-ℤ◌, length, unsigned_abs, IfOk};
+ghost use Rattle.std.specs.Prelude.{◌≡◌, ◌≤◌, length, IfOk};
 ghost use Rattle.segment.specs.Measure.{AreReadings};
 ghost use Rattle.semantics.specs.Most.{most_readings};
 ghost use Rattle.query_cli.specs.Generated.{generated, next_state, reading_of, wave};

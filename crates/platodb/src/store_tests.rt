@@ -10,6 +10,8 @@ use std::test::Fail;
 
 const TWENTY: &[u8] = b"v\n0\n10\n0\n10\n0\n10\n0\n10\n0\n10\n0\n10\n0\n10\n0\n10\n0\n10\n0\n10\n";
 
+const TWELVE: &[u8] = b"v\n0\n10\n0\n10\n0\n10\n0\n10\n0\n10\n0\n10\n";
+
 // A shelf with these files.
 fn shelf_with(
     alloc: Global,
@@ -127,6 +129,78 @@ fn turns(rt: &impl Abort, alloc: Global) -> Result<Vec<u8>, Fail> {
     )?;
     let bytes = shelf.file("s").ok_or("a store")?;
     Ok(bytes.to_vec(alloc)?)
+}
+
+#[test]
+fn appends_readings(rt: HostRuntime) -> Result<(), Fail> {
+    let alloc = rt.alloc();
+    let whole = turns(&rt, alloc)?;
+    let files = [
+        ("b.csv", TWENTY),
+        ("c.csv", TWELVE),
+        ("none.csv", b"v\n".as_slice()),
+    ];
+    let mut shelf = shelf_with(alloc, &files, &[], &[3])?;
+    says(
+        &rt,
+        alloc,
+        &mut shelf,
+        &[
+            ("new s 0 0", "new\n", 0),
+            ("load s x b.csv v", "loaded x 20\n", 0),
+            ("append s x c.csv v", "replace fault\n", 4),
+            ("check s", "ok 1 20\n", 0),
+            ("append s x c.csv v", "appended x 12 32\n", 0),
+        ],
+    )?;
+    assert!(rt; shelf.file("s") == Some(whole.as_slice()));
+    says(
+        &rt,
+        alloc,
+        &mut shelf,
+        &[
+            ("append s x none.csv v", "appended x 0 32\n", 0),
+            ("append s z c.csv w", "series unknown z\n", 10),
+            ("append s x c.csv w", "csv no column\n", 8),
+            ("append t x d.csv v", "absent t\n", 6),
+            ("append c.csv x d.csv v", "absent d.csv\n", 6),
+            ("append c.csv x c.csv v", "store bad header 0\n", 9),
+            ("append s sum c.csv v", "usage fault\n", 2),
+        ],
+    )?;
+    assert!(rt; shelf.file("s") == Some(whole.as_slice()));
+    Ok(())
+}
+
+// A missing first cell repeats the last reading of the series, and one of a series without readings is refused.
+#[test]
+fn appends_behind_the_last(rt: HostRuntime) -> Result<(), Fail> {
+    let alloc = rt.alloc();
+    let files = [
+        ("seven.csv", b"v\n7\n".as_slice()),
+        ("more.csv", b"t,v\n0,\n1,5\n".as_slice()),
+        ("all.csv", b"v\n7\n7\n5\n".as_slice()),
+        ("none.csv", b"v\n".as_slice()),
+    ];
+    let mut shelf = shelf_with(alloc, &files, &[], &[])?;
+    says(
+        &rt,
+        alloc,
+        &mut shelf,
+        &[
+            ("new s 0 0", "new\n", 0),
+            ("load s x seven.csv v", "loaded x 1\n", 0),
+            ("append s x more.csv v", "appended x 2 3\n", 0),
+            ("new t 0 0", "new\n", 0),
+            ("load t x all.csv v", "loaded x 3\n", 0),
+            ("new u 0 0", "new\n", 0),
+            ("load u x none.csv v", "loaded x 0\n", 0),
+            ("append u x more.csv v", "csv missing first 1\n", 8),
+        ],
+    )?;
+    assert!(rt; shelf.file("s").is_some());
+    assert!(rt; shelf.file("s") == shelf.file("t"));
+    Ok(())
 }
 
 #[test]

@@ -1,5 +1,7 @@
 -- Lemmas of each command.
+pub mod Append
 pub mod Check
+pub mod Column
 pub mod Load
 pub mod New
 pub mod Once

@@ -1,6 +1,7 @@
 pub mod CommandLaws
 pub mod Containment
 pub mod DescentLaws
+pub mod EmptyLaws
 pub mod ExpandLaws
 pub mod GeneratedLaws
 pub mod NodeLaws

@@ -1,21 +1,24 @@
 -- The steps of commands.
-use Rattle.std.proofs.Common.{◌≡◌, ◌∙◌, ◌^◌, ◌+◌, ◌≤◌, ℕ, ℤ, Bool, true, false, List, length, Option, Some, None, Result, Ok, Err, refl, ap, sym, inl, arith}
-use Rattle.std.specs.Prelude.{nat_lt, if◌then◌else◌}
+use Rattle.std.proofs.Common.{◌≡◌, ◌∙◌, ◌^◌, ◌+◌, ◌≤◌, ℕ, ℤ, Bool, true, false, List, length, Option, Some, None, Result, Ok, Err, refl, ap, sym, subst, inl, inr, arith}
+use Rattle.std.specs.Prelude.{◌⊎◌, ◌≢◌, nat_lt, if◌then◌else◌}
 use Rattle.std.specs.Result.{result_err}
 use Rattle.outside.specs.Parts.{RisesBy}
 use Rattle.semantics.specs.Files.{Files, IfTold, file_of}
 use Rattle.store_file.specs.Added.{HasRoom, add_refusal, name_refusal}
+use Rattle.store_file.specs.Grown.{append_refusal}
 use Rattle.store_file.specs.StoreValue.{StoreValue}
 use Rattle.store_file.specs.Stored.{StoreParts, store_value}
 use Rattle.store_file.specs.declared.adding.SeriesErr.{SeriesErr}
+use Rattle.store_file.specs.declared.adding.SeriesErr.TheVariants as series
 use Rattle.store_file.proofs.AddedLaws.{room-is-enough}
+use Rattle.store_file.proofs.GrownLaws.{growth-has-room}
 use Rattle.query_cli.specs.Commands.{Command, refusal_of}
 use Rattle.query_cli.specs.Reading.{File, IsRead, Reading, file_at, file_within, held, missing, most_csv, most_store, oversized, reading_in}
 use Rattle.query_cli.specs.Refusals.{Refusal, series_fault, usage}
 use Rattle.query_cli.specs.Run.{IsKeptOrReplayed, IsRefused}
 use Rattle.query_cli.specs.Shelf.{RoseAtMost}
-use Rattle.query_cli.specs.Steps.{bytes_of, room_in, unless_refused}
-use Rattle.query_cli.specs.Stops.{IfRefused, IfStopped, IsStepRefusal, IsUnread}
+use Rattle.query_cli.specs.Steps.{bytes_of, refused_as, room_in, short_in, unless_refused}
+use Rattle.query_cli.specs.Stops.{HasCause, IfRefused, IfStopped, IsStepRefusal, IsUnread}
 use Rattle.query_cli.specs.declared.stop.Halt.{Halt}
 use Rattle.query_cli.specs.declared.stop.Halt.TheVariants as halt
 use Rattle.query_cli.specs.declared.stop.Stop.{Stop}
@@ -132,12 +135,37 @@ rose-once n before now few rises b e = let k = rises b e in (k.0, k.1, omega (ar
 pub rose-twice : (n : ℕ) (before between now : Option ℕ) → 2 ≤ n → RisesBy 1 before between → RisesBy 1 between now → RoseAtMost n before now
 rose-twice n before between now few first second b e = let k = second b e in let j = first k.0 k.1 in (j.0, j.1, omega (arith, k.2, j.2))
 
+-- ---- results of steps
+
+pub no_error : {A E : Type 0} (refusal : E → Refusal) (r : Result A E) (a : A) → refused_as refusal r ≡ Ok a → r ≡ Ok a
+no_error refusal (Ok b) a h = cc
+no_error refusal (Err e) a h = cc
+
+series-cause : (name : List ℕ) (e : SeriesErr) → HasCause (series_fault name e)
+series-cause name e = record { csv = λ h. cc; store = λ h. cc; query = λ h. cc }
+
 -- ---- a store with room
 
-no_error : (name : List ℕ) (m : StoreValue) (o : Option SeriesErr) → unless_refused (series_fault name) m o ≡ Ok m → o ≡ None
-no_error name m None h = refl
-no_error name m (Some e) h = cc
+not_refused : (name : List ℕ) (m : StoreValue) (o : Option SeriesErr) → unless_refused (series_fault name) m o ≡ Ok m → o ≡ None
+not_refused name m None h = refl
+not_refused name m (Some e) h = cc
 
 -- a store with room for a series takes any readings of a column
 pub never_refused : (s : StoreParts) (name : List ℕ) (xs : List ℤ) → room_in (store_value s) name ≡ Ok (store_value s) → length xs ≤ 2 ^ 20 → HasRoom s → add_refusal s name xs ≡ None
-never_refused s name xs found few room = room-is-enough s name xs room few ∙ no_error name (store_value s) (name_refusal (store_value s) name) found
+never_refused s name xs found few room = room-is-enough s name xs room few ∙ not_refused name (store_value s) (name_refusal (store_value s) name) found
+
+-- ---- more readings of a series
+
+-- with room only a series that gets too long is refused more readings
+pub short-fits : (s : StoreParts) (name : List ℕ) (xs : List ℤ) → HasRoom s → append_refusal s name xs ≡ None → short_in (store_value s) name xs ≡ Ok xs
+short-fits s name xs room none = ap (unless_refused (series_fault name) xs) (sym (growth-has-room s name xs room) ∙ none)
+
+short-refused : (s : StoreParts) (name : List ℕ) (xs : List ℤ) (e : SeriesErr) → HasRoom s → append_refusal s name xs ≡ Some e → short_in (store_value s) name xs ≡ Err (series_fault name e)
+short-refused s name xs e room some = ap (unless_refused (series_fault name) xs) (sym (growth-has-room s name xs room) ∙ some)
+
+pub grow_refused : (s : StoreParts) (name : List ℕ) (xs : List ℤ) (e : SeriesErr) (stop : Stop) → HasRoom s → (e ≡ series.Memory) ⊎ (append_refusal s name xs ≡ Some e)
+    → IfRefused stop (λ r. (r ≡ series_fault name e) × (e ≢ series.Memory)) → IfRefused stop (IsStepRefusal (short_in (store_value s) name xs))
+grow_refused s name xs e stop room (inl memory) h = refused-map stop (λ r. (r ≡ series_fault name e) × (e ≢ series.Memory)) (IsStepRefusal (short_in (store_value s) name xs)) (λ r k. absurd (k.1 memory)) h
+grow_refused s name xs e stop room (inr some) h =
+    refused-map stop (λ r. (r ≡ series_fault name e) × (e ≢ series.Memory)) (IsStepRefusal (short_in (store_value s) name xs))
+    (λ r k. record { called = short-refused s name xs e room some ∙ ap Err (sym k.0); cause = subst HasCause (sym k.0) (series-cause name e) }) h

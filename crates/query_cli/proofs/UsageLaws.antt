@@ -13,16 +13,20 @@ use Rattle.store_file.specs.StoreValue.{StoreValue}
 use Rattle.store_file.specs.declared.adding.SeriesErr.{SeriesErr}
 use Rattle.store_file.specs.Decoded.{decode_of}
 use Rattle.store_file.specs.Facts.{facts_in}
+use Rattle.store_file.specs.Grown.{growth_refusal}
+use Rattle.store_file.specs.Last.{last_in}
 use Rattle.store_file.specs.declared.decoding.StoreErr.{StoreErr}
-use Rattle.query_cli.specs.Commands.{Command, IsUsage, check, load, new_store, once, query, refusal_of}
+use Rattle.query_cli.specs.Commands.{Command, IsUsage, append, check, load, new_store, once, query, refusal_of}
 use Rattle.query_cli.specs.Commands.Check.{CheckCommand, checked_by}
-use Rattle.query_cli.specs.Commands.Load.{LoadCommand, Loaded, loaded_by, loaded_in}
+use Rattle.query_cli.specs.Commands.Append.{append_by, appended_in}
+use Rattle.query_cli.specs.Commands.Column.{Bringing, Brought, ColumnCommand, brought_by}
+use Rattle.query_cli.specs.Commands.Load.{load_by, loaded_in}
 use Rattle.query_cli.specs.Commands.Once.{OnceCommand, is_range_of, range_in, summed_by}
 use Rattle.query_cli.specs.Commands.Query.{QueryCommand, admitted_in, asked_by, asked_in, query_in}
 use Rattle.query_cli.specs.Reading.{File, Reading, held, missing, oversized}
 use Rattle.query_cli.specs.Refusals.{Refusal, absent, bad_csv, bad_query, bad_store, domain, query_rank, query_refusal, query_unknown, range, series_fault, status_of, store_fault, too_big, usage}
 use Rattle.query_cli.specs.Run.{IsRefused}
-use Rattle.query_cli.specs.Steps.{and_then, bytes_of, column_in, csv_bytes, known_store_in, refused_as, room_in, store_bytes, store_in, unless_refused}
+use Rattle.query_cli.specs.Steps.{and_then, bytes_of, column_in, csv_bytes, known_store_in, last_reading_in, refused_as, room_in, short_in, store_bytes, store_in, unless_refused}
 use Rattle.query_cli.specs.declared.status.Status.TheVariants as status
 
 -- ---- steps that never answer so
@@ -63,7 +67,7 @@ in_store q bytes =
     behind (known_store_in bytes) (λ m. admitted_in q m) (error {E = StoreErr} (λ e. store_fault) (decode_of bytes) (λ e k. cc))
     (λ m. unless query_refusal (record { store = m; query = q }) (admission.refusal_of (facts_in m) (plain q)) admission_isnt)
 
-abbrev found_in : StoreValue → List ℤ → Result Loaded Refusal
+abbrev found_in : StoreValue → List ℤ → Result Brought Refusal
 found_in store xs = Ok (record { store = store; readings = xs })
 
 -- ---- commands
@@ -73,26 +77,51 @@ once_isnt reading c =
     behind _ _ (read c.csv (reading.csv c.csv))
     (λ b. behind _ _ (error bad_csv _ (λ e k. cc)) (λ xs. in_range xs (is_range_of (length xs) c.from c.until)))
 
-in_column : (c : LoadCommand) (text : List ℕ) (store : StoreValue) → and_then (column_in text c.column store.scale) (λ xs. found_in store xs) ≡ Err usage → ⊥
-in_column c text store =
-    behind (column_in text c.column store.scale) (λ xs. found_in store xs)
+loaded_column : (c : ColumnCommand) (text : List ℕ) (store : StoreValue) → and_then (column_in text c.column store.scale None) (λ xs. found_in store xs) ≡ Err usage → ⊥
+loaded_column c text store =
+    behind (column_in text c.column store.scale None) (λ xs. found_in store xs)
     (error {E = CsvErr} bad_csv (column_of text c.column store.scale None) (λ e k. cc)) (λ xs h. cc)
 
-in_room : (c : LoadCommand) (text : List ℕ) (m : StoreValue)
-    → and_then (room_in m c.name) (λ store. and_then (column_in text c.column store.scale) (λ xs. found_in store xs)) ≡ Err usage → ⊥
-in_room c text m =
-    behind (room_in m c.name) (λ store. and_then (column_in text c.column store.scale) (λ xs. found_in store xs))
-    (unless {E = SeriesErr} (series_fault c.name) m (name_refusal m c.name) (λ e k. cc)) (in_column c text)
+loaded_room : (c : ColumnCommand) (text : List ℕ) (m : StoreValue)
+    → and_then (room_in m c.name) (λ store. and_then (column_in text c.column store.scale None) (λ xs. found_in store xs)) ≡ Err usage → ⊥
+loaded_room c text m =
+    behind (room_in m c.name) (λ store. and_then (column_in text c.column store.scale None) (λ xs. found_in store xs))
+    (unless {E = SeriesErr} (series_fault c.name) m (name_refusal m c.name) (λ e k. cc)) (loaded_column c text)
 
-in_bytes : (c : LoadCommand) (stored text : List ℕ) → loaded_in c stored text ≡ Err usage → ⊥
-in_bytes c stored text =
-    behind (store_in stored) (λ m. and_then (room_in m c.name) (λ store. and_then (column_in text c.column store.scale) (λ xs. found_in store xs)))
-    (error {E = StoreErr} bad_store (decode_of stored) (λ e k. cc)) (in_room c text)
+load_isnt : (c : ColumnCommand) (stored text : List ℕ) → loaded_in c stored text ≡ Err usage → ⊥
+load_isnt c stored text =
+    behind (store_in stored) (λ m. and_then (room_in m c.name) (λ store. and_then (column_in text c.column store.scale None) (λ xs. found_in store xs)))
+    (error {E = StoreErr} bad_store (decode_of stored) (λ e k. cc)) (loaded_room c text)
 
-load_isnt : (reading : Reading) (c : LoadCommand) → loaded_by reading c ≡ Err usage → ⊥
-load_isnt reading c =
-    behind (store_bytes reading c.store) (λ stored. and_then (csv_bytes reading c.csv) (λ text. loaded_in c stored text)) (read c.store (reading.store c.store))
-    (λ stored. behind (csv_bytes reading c.csv) (λ text. loaded_in c stored text) (read c.csv (reading.csv c.csv)) (in_bytes c stored))
+abbrev grown_in : ColumnCommand → StoreValue → List ℤ → Result Brought Refusal
+grown_in c m xs = and_then (short_in m c.name xs) (λ more. found_in m more)
+
+abbrev behind_last : ColumnCommand → List ℕ → StoreValue → Option ℤ → Result Brought Refusal
+behind_last c text m last = and_then (column_in text c.column m.scale last) (λ xs. grown_in c m xs)
+
+appended_short : (c : ColumnCommand) (m : StoreValue) (xs : List ℤ) → grown_in c m xs ≡ Err usage → ⊥
+appended_short c m xs =
+    behind (short_in m c.name xs) (λ more. found_in m more) (unless {E = SeriesErr} (series_fault c.name) xs (growth_refusal m c.name xs) (λ e k. cc)) (λ more h. cc)
+
+appended_column : (c : ColumnCommand) (text : List ℕ) (m : StoreValue) (last : Option ℤ) → behind_last c text m last ≡ Err usage → ⊥
+appended_column c text m last =
+    behind (column_in text c.column m.scale last) (λ xs. grown_in c m xs)
+    (error {E = CsvErr} bad_csv (column_of text c.column m.scale last) (λ e k. cc)) (appended_short c m)
+
+appended_series : (c : ColumnCommand) (text : List ℕ) (m : StoreValue) → and_then (last_reading_in m c.name) (λ last. behind_last c text m last) ≡ Err usage → ⊥
+appended_series c text m =
+    behind (last_reading_in m c.name) (λ last. behind_last c text m last)
+    (error {E = SeriesErr} (series_fault c.name) (last_in m c.name) (λ e k. cc)) (appended_column c text m)
+
+append_isnt : (c : ColumnCommand) (stored text : List ℕ) → appended_in c stored text ≡ Err usage → ⊥
+append_isnt c stored text =
+    behind (store_in stored) (λ m. and_then (last_reading_in m c.name) (λ last. behind_last c text m last))
+    (error {E = StoreErr} bad_store (decode_of stored) (λ e k. cc)) (appended_series c text)
+
+bring_isnt : (reading : Reading) (c : ColumnCommand) (w : Bringing) → ((stored text : List ℕ) → w.find stored text ≡ Err usage → ⊥) → brought_by reading c w ≡ Err usage → ⊥
+bring_isnt reading c w find =
+    behind (store_bytes reading c.store) (λ stored. and_then (csv_bytes reading c.csv) (λ text. w.find stored text)) (read c.store (reading.store c.store))
+    (λ stored. behind (csv_bytes reading c.csv) (λ text. w.find stored text) (read c.csv (reading.csv c.csv)) (find stored))
 
 check_isnt : (reading : Reading) (c : CheckCommand) → checked_by reading c ≡ Err usage → ⊥
 check_isnt reading c = behind _ _ (read c.store (reading.store c.store)) (λ stored. error bad_store _ (λ e k. cc))
@@ -124,7 +153,8 @@ is_usage : (reading : Reading) (command : Option Command) → refusal_of reading
 is_usage reading None h = tt
 is_usage reading (Some (once c)) h = absurd (once_isnt reading c (error_of (summed_by reading c) usage h))
 is_usage reading (Some (new_store c)) h = cc
-is_usage reading (Some (load c)) h = absurd (load_isnt reading c (error_of (loaded_by reading c) usage h))
+is_usage reading (Some (load c)) h = absurd (bring_isnt reading c (load_by c) (load_isnt c) (error_of (brought_by reading c (load_by c)) usage h))
+is_usage reading (Some (append c)) h = absurd (bring_isnt reading c (append_by c) (append_isnt c) (error_of (brought_by reading c (append_by c)) usage h))
 is_usage reading (Some (check c)) h = absurd (check_isnt reading c (error_of (checked_by reading c) usage h))
 is_usage reading (Some (query c)) h = query_first reading c (error_of (asked_by reading c) usage h)
 

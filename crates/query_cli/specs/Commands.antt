@@ -1,5 +1,7 @@
 -- What each command is, by a line of each table.
+pub mod Append
 pub mod Check
+pub mod Column
 pub mod Load
 pub mod New
 pub mod Once
@@ -9,8 +11,10 @@ use Rattle.std.specs.Result.{result_err}
 use Rattle.std.specs.declared.alloc.Global.{Global}
 use Rattle.std.specs.declared.string.String.{String}
 use Rattle.semantics.specs.Files.{Files}
+use Rattle.query_cli.specs.Commands.Append.{append_by}
 use Rattle.query_cli.specs.Commands.Check.{CheckCommand, CheckAnswers, check_of, checked_by}
-use Rattle.query_cli.specs.Commands.Load.{LoadCommand, LoadAnswers, LoadReplays, files_after_load, load_of, load_reads, loaded_by}
+use Rattle.query_cli.specs.Commands.Column.{ColumnCommand, ColumnAnswers, ColumnReplays, brought_by, column_reads, column_words, files_after_column}
+use Rattle.query_cli.specs.Commands.Load.{load_by}
 use Rattle.query_cli.specs.Commands.New.{NewCommand, files_after_new, new_line, new_of}
 use Rattle.query_cli.specs.Commands.Once.{OnceCommand, OnceAnswers, once_of, summed_by}
 use Rattle.query_cli.specs.Commands.Query.{QueryCommand, QueryAnswers, asked_by, query_in, query_of, query_reads}
@@ -22,7 +26,8 @@ use Rattle.query_cli.specs.Words.{has_form}
 pub data Command : Type 0 where
   once : OnceCommand → Command
   new_store : NewCommand → Command
-  load : LoadCommand → Command
+  load : ColumnCommand → Command
+  append : ColumnCommand → Command
   check : CheckCommand → Command
   query : QueryCommand → Command
 
@@ -31,7 +36,8 @@ unfoldable pub command_of : List (List ℕ) → Option Command
 command_of words =
     if has_form words (codes "once") 7 then option_map once (once_of words)
     else if has_form words (codes "new") 4 then option_map new_store (new_of words)
-    else if has_form words (codes "load") 5 then option_map load (load_of words)
+    else if has_form words (codes "load") 5 then option_map load (column_words words)
+    else if has_form words (codes "append") 5 then option_map append (column_words words)
     else if has_form words (codes "check") 2 then option_map check (check_of words)
     else if has_form words (codes "query") 4 then option_map query (query_of words)
     else None
@@ -45,7 +51,8 @@ abbrev pub refusal_of : Reading → Option Command → Option Refusal
 refusal_of reading None = Some usage
 refusal_of reading (Some (once c)) = result_err (summed_by reading c)
 refusal_of reading (Some (new_store c)) = None
-refusal_of reading (Some (load c)) = result_err (loaded_by reading c)
+refusal_of reading (Some (load c)) = result_err (brought_by reading c (load_by c))
+refusal_of reading (Some (append c)) = result_err (brought_by reading c (append_by c))
 refusal_of reading (Some (check c)) = result_err (checked_by reading c)
 refusal_of reading (Some (query c)) = result_err (asked_by reading c)
 
@@ -54,7 +61,8 @@ abbrev pub Answers : Reading → Option Command → List ℕ → Type 0
 Answers reading None text = ⊥
 Answers reading (Some (once c)) text = OnceAnswers reading c text
 Answers reading (Some (new_store c)) text = text ≡ new_line
-Answers reading (Some (load c)) text = LoadAnswers reading c text
+Answers reading (Some (load c)) text = ColumnAnswers reading c (load_by c) text
+Answers reading (Some (append c)) text = ColumnAnswers reading c (append_by c) text
 Answers reading (Some (check c)) text = CheckAnswers reading c text
 Answers reading (Some (query c)) text = QueryAnswers reading c text
 
@@ -64,6 +72,7 @@ is_reader None = false
 is_reader (Some (once c)) = true
 is_reader (Some (new_store c)) = false
 is_reader (Some (load c)) = true
+is_reader (Some (append c)) = true
 is_reader (Some (check c)) = true
 is_reader (Some (query c)) = query_reads c
 
@@ -72,7 +81,8 @@ abbrev pub reads_of : Reading → Option Command → ℕ
 reads_of reading None = 0
 reads_of reading (Some (once c)) = 1
 reads_of reading (Some (new_store c)) = 0
-reads_of reading (Some (load c)) = load_reads reading c
+reads_of reading (Some (load c)) = column_reads reading c
+reads_of reading (Some (append c)) = column_reads reading c
 reads_of reading (Some (check c)) = 1
 reads_of reading (Some (query c)) = if query_reads c then 1 else 0
 
@@ -82,6 +92,7 @@ is_writer None = false
 is_writer (Some (once c)) = false
 is_writer (Some (new_store c)) = true
 is_writer (Some (load c)) = true
+is_writer (Some (append c)) = true
 is_writer (Some (check c)) = false
 is_writer (Some (query c)) = false
 
@@ -90,7 +101,10 @@ abbrev pub files_after : Files → Option Command → Files
 files_after files None = files
 files_after files (Some (once c)) = files
 files_after files (Some (new_store c)) = files_after_new files c
-files_after files (Some (load c)) = files_after_load files c (loaded_by (reading_in files) c)
+files_after files (Some (load c)) =
+    files_after_column files c (load_by c) (brought_by (reading_in files) c (load_by c))
+files_after files (Some (append c)) =
+    files_after_column files c (append_by c) (brought_by (reading_in files) c (append_by c))
 files_after files (Some (check c)) = files
 files_after files (Some (query c)) = files
 
@@ -100,7 +114,8 @@ IsReplayed old None now = ⊥
 IsReplayed old (Some (once c)) now = ⊥
 -- whatever stood there
 IsReplayed old (Some (new_store c)) now = Stands old c.store (begins c.scale c.degree ∷ []) now
-IsReplayed old (Some (load c)) now = LoadReplays old c now
+IsReplayed old (Some (load c)) now = ColumnReplays old c (load_by c) now
+IsReplayed old (Some (append c)) now = ColumnReplays old c (append_by c) now
 IsReplayed old (Some (check c)) now = ⊥
 IsReplayed old (Some (query c)) now = ⊥
 
@@ -110,5 +125,6 @@ IsUsage None = Unit {0}
 IsUsage (Some (once c)) = ⊥
 IsUsage (Some (new_store c)) = ⊥
 IsUsage (Some (load c)) = ⊥
+IsUsage (Some (append c)) = ⊥
 IsUsage (Some (check c)) = ⊥
 IsUsage (Some (query c)) = query_in c.text ≡ Err usage

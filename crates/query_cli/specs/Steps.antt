@@ -4,6 +4,8 @@ use Rattle.std.specs.Prelude.{◌≡◌, ℕ, List, Option, Some, None, ℤ, pos
 use Rattle.series_csv.specs.Column.{column_of}
 use Rattle.store_file.specs.Added.{name_refusal}
 use Rattle.store_file.specs.Decoded.{decode_of}
+use Rattle.store_file.specs.Grown.{growth_refusal}
+use Rattle.store_file.specs.Last.{last_in}
 use Rattle.store_file.specs.StoreValue.{StoreValue}
 use Rattle.query_cli.specs.Reading.{File, Reading, held, missing, oversized}
 use Rattle.query_cli.specs.Refusals.{Refusal, absent, too_big, bad_csv, bad_store, series_fault, store_fault}
@@ -53,9 +55,17 @@ room_in m name = unless_refused (series_fault name) m (name_refusal m name)
 abbrev pub known_store_in : List ℕ → Result StoreValue Refusal
 known_store_in bytes = refused_as (λ e. store_fault) (decode_of bytes)
 
--- the readings of a column, with no reading before
-abbrev pub column_in : List ℕ → List ℕ → ℕ → Result (List ℤ) Refusal
-column_in bytes column scale = refused_as bad_csv (column_of bytes column scale None)
+-- the last reading of a series, where there is such a series
+abbrev pub last_reading_in : StoreValue → List ℕ → Result (Option ℤ) Refusal
+last_reading_in m name = refused_as (series_fault name) (last_in m name)
+
+-- more readings of a series, where it does not get too long
+abbrev pub short_in : StoreValue → List ℕ → List ℤ → Result (List ℤ) Refusal
+short_in m name xs = unless_refused (series_fault name) xs (growth_refusal m name xs)
+
+-- the readings of a column behind the reading before, where there is one
+abbrev pub column_in : List ℕ → List ℕ → ℕ → Option ℤ → Result (List ℤ) Refusal
+column_in bytes column scale before = refused_as bad_csv (column_of bytes column scale before)
 
 -- the line of an interval that holds a value and is no wider than a budget
 pub record IsIntervalLine (value : ℤ) (budget : ℕ) (text : List ℕ) : Type 0 where

@@ -1,8 +1,8 @@
 -- Commands and refusals without where their words lie.
-use Rattle.query_cli.specs.Commands.{Command, once, new_store, load, check, query}
+use Rattle.query_cli.specs.Commands.{Command, once, new_store, load, append, check, query}
 use Rattle.query_cli.specs.Commands.Once.{OnceCommand}
 use Rattle.query_cli.specs.Commands.New.{NewCommand}
-use Rattle.query_cli.specs.Commands.Load.{LoadCommand}
+use Rattle.query_cli.specs.Commands.Column.{ColumnCommand}
 use Rattle.query_cli.specs.Commands.Check.{CheckCommand}
 use Rattle.query_cli.specs.Commands.Query.{QueryCommand}
 use Rattle.query_cli.specs.Refusals.{Refusal, usage, absent, too_big, bad_csv, bad_store, series_fault, domain, bad_query, store_fault, range}
@@ -10,7 +10,9 @@ use Rattle.query_cli.specs.declared.commands.Command.{Command as CommandCode}
 use Rattle.query_cli.specs.declared.commands.Command.TheVariants as command
 use Rattle.query_cli.specs.declared.commands.once.Once.{Once}
 use Rattle.query_cli.specs.declared.commands.new.New.{New}
+use Rattle.query_cli.specs.declared.commands.append.Append.{Append}
 use Rattle.query_cli.specs.declared.commands.load.Load.{Load}
+use Rattle.query_cli.specs.declared.steps.column.Column.{Column}
 use Rattle.query_cli.specs.declared.commands.check.Check.{Check}
 use Rattle.query_cli.specs.declared.commands.query.Query.{Query}
 use Rattle.query_cli.specs.declared.refusals.Refusal.{Refusal as RefusalCode}
@@ -23,8 +25,14 @@ once_view o =
 abbrev pub new_view : New → NewCommand
 new_view n = record { store = n.store.now; scale = n.scale; degree = n.degree }
 
-abbrev pub load_view : Load → LoadCommand
-load_view l = record { store = l.store.now; name = l.name; csv = l.csv.now; column = l.column.now }
+abbrev pub column_view : Column → ColumnCommand
+column_view c = record { store = c.store.now; name = c.name; csv = c.csv.now; column = c.column.now }
+
+abbrev pub load_view : Load → ColumnCommand
+load_view l = column_view l.0
+
+abbrev pub append_view : Append → ColumnCommand
+append_view a = column_view a.0
 
 abbrev pub check_view : Check → CheckCommand
 check_view c = record { store = c.store.now }
@@ -36,6 +44,7 @@ abbrev pub command_view : CommandCode → Command
 command_view (command.Once o) = once (once_view o)
 command_view (command.New n) = new_store (new_view n)
 command_view (command.Load l) = load (load_view l)
+command_view (command.Append a) = append (append_view a)
 command_view (command.Check c) = check (check_view c)
 command_view (command.Query q) = query (query_view q)
 

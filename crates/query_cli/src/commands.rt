@@ -8,6 +8,7 @@ ghost use Rattle.query_cli.specs.Shelf.{Replaces, RoseAtMost};
 ghost use Rattle.query_cli.specs.Stops.{IfStopped};
 ghost use Rattle.query_cli.specs.Views.{command_view};
 
+mod append;
 mod check;
 mod load;
 mod new;
@@ -26,6 +27,7 @@ pub(crate) enum Command<'a> {
     Once(once::Once<'a>),
     New(new::New<'a>),
     Load(load::Load<'a>),
+    Append(append::Append<'a>),
     Check(check::Check<'a>),
     Query(query::Query<'a>),
 }
@@ -43,6 +45,9 @@ pub(crate) fn read_command(words: &[String]) -> Option<Command<'_>>
     }
     if is_form(words, "load", 5) {
         return load::Load::read(words);
+    }
+    if is_form(words, "append", 5) {
+        return append::Append::read(words);
     }
     if is_form(words, "check", 2) {
         return check::Check::read(words);
@@ -79,6 +84,7 @@ pub(crate) fn answer<S: Shelf>(
         Some(Command::Once(once)) => once.answer(alloc, shelf),
         Some(Command::New(new)) => new.answer(alloc, shelf),
         Some(Command::Load(load)) => load.answer(alloc, shelf),
+        Some(Command::Append(append)) => append.answer(alloc, shelf),
         Some(Command::Check(check)) => check.answer(alloc, shelf),
         Some(Command::Query(query)) => query.answer(alloc, shelf),
     }

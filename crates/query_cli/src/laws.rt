@@ -1,12 +1,14 @@
 // What holds of all stores and histories.
 
 ghost use Rattle.query_cli.specs.Laws.{OnlyStoresAreAccepted, StoresAreAccepted};
-ghost use Rattle.query_cli.specs.Replay.{HistoriesGoOn, HistoriesMakeStores};
+ghost use Rattle.query_cli.specs.Replay.{EmptyGrowthStays, HistoriesGoOn, HistoriesMakeStores};
 
-/// Every history makes a store, and goes on with each command that its store accepts.
+/// Every history makes a store, and goes on with each command that its store accepts; an `append` of
+/// no readings leaves the store as it is.
 pub fn histories_make_stores()
     ensures stores { HistoriesMakeStores }
     ensures go_on { HistoriesGoOn }
+    ensures empty { EmptyGrowthStays }
 {}
 
 /// `check` accepts the files that hold the bytes of a store, and no others.

@@ -45,7 +45,7 @@ range_in c xs = if is_range_of (length xs) c.from c.until then Ok xs else Err (d
 
 -- the readings that `once` sums, by the bytes of its file
 abbrev pub summed_in : OnceCommand → List ℕ → Result (List ℤ) Refusal
-summed_in c bytes = and_then (column_in bytes c.column c.scale) (λ xs. range_in c xs)
+summed_in c bytes = and_then (column_in bytes c.column c.scale None) (λ xs. range_in c xs)
 
 -- the readings that `once` sums, or its first refusal
 abbrev pub summed_by : Reading → OnceCommand → Result (List ℤ) Refusal

@@ -6,7 +6,8 @@ ghost use Rattle.store_file.specs.Added.{HasRoom, IsAddable, with_series};
 ghost use Rattle.store_file.specs.StoreValue.{store_image};
 ghost use Rattle.store_file.specs.Stored.{store_value};
 ghost use Rattle.query_cli.specs.Commands.{load};
-ghost use Rattle.query_cli.specs.Commands.Load.{Loads, load_of, load_reads, loaded_in, loaded_line};
+ghost use Rattle.query_cli.specs.Commands.Column.{Brings, column_reads, column_words};
+ghost use Rattle.query_cli.specs.Commands.Load.{load_by, loaded_in, loaded_line};
 ghost use Rattle.query_cli.specs.Reading.{most_csv, most_store, reading_in};
 ghost use Rattle.query_cli.specs.Run.{Accepts, IsDone, IsRefused};
 ghost use Rattle.query_cli.specs.Shelf.{Replaces, RoseAtMost};
@@ -15,11 +16,11 @@ ghost use Rattle.query_cli.specs.Stops.{IfRefused, IfStopped, IsStepRefusal};
 ghost use Rattle.query_cli.specs.Views.{command_view, load_view};
 
 use crate::commands::Command;
-use crate::steps::column::readings_of;
+use crate::steps::column::{Column, readings_of};
 use crate::steps::files::{MOST_CSV, MOST_STORE, read_file, replace_file};
 use crate::steps::store::{Written, add, bytes_of, find_room, scale_of, store_of};
 use crate::stop::{Fault, Halt, Stop};
-use crate::words::{is_file_word, name_text, word_at};
+use crate::words::name_text;
 use expr::Name;
 use outside::Shelf;
 use std::alloc::{AllocError, Global};
@@ -27,31 +28,17 @@ use store_file::Store;
 
 /// `load STORE NAME CSV COLUMN`: a column as a new series of a store.
 #[derive(Drop)]
-pub(crate) struct Load<'a> {
-    pub(crate) store: &'a str,
-    pub(crate) name: Name,
-    pub(crate) csv: &'a str,
-    pub(crate) column: &'a str,
-}
+pub(crate) struct Load<'a>(Column<'a>);
 
 impl<'a> Load<'a> {
     pub(crate) fn read(words: &'a [String]) -> Option<Command<'a>>
         requires { length words.now ≡ 5 }
-        ensures { option_map command_view result ≡ option_map load (load_of (map string_bytes words.now)) }
+        ensures { option_map command_view result ≡ option_map load (column_words (map string_bytes words.now)) }
     {
-        if !is_file_word(word_at(words, 1)) {
-            return None;
+        match Column::read(words) {
+            Some(column) => Some(Command::Load(Load(column))),
+            None => None,
         }
-        let name = Name::of(word_at(words, 2).as_bytes())?;
-        if !is_file_word(word_at(words, 3)) {
-            return None;
-        }
-        Some(Command::Load(Load {
-            store: word_at(words, 1),
-            name,
-            csv: word_at(words, 3),
-            column: word_at(words, 4),
-        }))
     }
 
     // What is written, by the bytes of the two files.
@@ -59,14 +46,15 @@ impl<'a> Load<'a> {
         requires stored { length stored.now ≤ most_store }
         requires text { length text.now ≤ most_csv }
         ensures ok { IfOk result (λ w.
-            Loads (load_view self.now) stored.now text.now (string_bytes w.line) w.bytes.items) }
+            Brings (load_view self.now) (load_by (load_view self.now)) stored.now text.now
+            (string_bytes w.line) w.bytes.items) }
         ensures refused { IfErr result (λ s.
             IfRefused s (IsStepRefusal (loaded_in (load_view self.now) stored.now text.now))) }
     {
         let mut store = store_of(alloc, stored)?;
-        find_room(alloc, &store, self.name)?;
-        let xs = readings_of(alloc, text, self.column, scale_of(&store))?;
-        let written = added(alloc, &mut store, self.name, &xs)?;
+        find_room(alloc, &store, self.0.name)?;
+        let xs = readings_of(alloc, text, self.0.column, scale_of(&store), None)?;
+        let written = added(alloc, &mut store, self.0.name, &xs)?;
         Ok(written)
     }
 
@@ -79,13 +67,13 @@ impl<'a> Load<'a> {
         ensures shelf { Replaces S.files S.read_faults S.replace_faults shelf.old shelf.new result }
         ensures replacing { result ≡ Err (Halt.Faulted Fault.Replacing)
             → IfTold (S.files shelf.old) (λ m. Accepts m (Some (load (load_view self.now)))) }
-        ensures fetches { IfTold (S.files shelf.old) (λ m. RoseAtMost (load_reads (reading_in m) (load_view self.now))
-            (S.fetches shelf.old) (S.fetches shelf.new)) }
+        ensures fetches { IfTold (S.files shelf.old) (λ m.
+            RoseAtMost (column_reads (reading_in m) (load_view self.now)) (S.fetches shelf.old) (S.fetches shelf.new)) }
     {
-        let stored = read_file(alloc, shelf, MOST_STORE, self.store)?;
-        let text = read_file(alloc, shelf, MOST_CSV, self.csv)?;
+        let stored = read_file(alloc, shelf, MOST_STORE, self.0.store)?;
+        let text = read_file(alloc, shelf, MOST_CSV, self.0.csv)?;
         let written = self.loaded(alloc, &stored, &text)?;
-        replace_file(shelf, self.store, &written.bytes)?;
+        replace_file(shelf, self.0.store, &written.bytes)?;
         Ok(written.line)
     }
 }

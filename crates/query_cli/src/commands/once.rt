@@ -100,7 +100,7 @@ impl<'a> Once<'a> {
             × IsSumLine (once_view self.now) xs (string_bytes t)) }
         ensures refused { IfErr result (λ s. IfRefused s (IsStepRefusal (summed_in (once_view self.now) bytes.now))) }
     {
-        let xs = readings_of(alloc, bytes, self.column, self.scale)?;
+        let xs = readings_of(alloc, bytes, self.column, self.scale, None)?;
         let n = xs.len() as u32;
         if !is_range(n, self.from, self.until) {
             return Err(refuse(

@@ -1,10 +1,13 @@
 ghost use Rattle.query_cli.specs.Reading.{most_store};
-ghost use Rattle.query_cli.specs.Steps.{known_store_in, room_in, store_in};
+ghost use Rattle.query_cli.specs.Refusals.{series_fault};
+ghost use Rattle.query_cli.specs.Steps.{known_store_in, last_reading_in, room_in, short_in, store_in};
 ghost use Rattle.query_cli.specs.Stops.{IfRefused, IsStepRefusal};
 ghost use Rattle.segment.specs.Measure.{AreReadings};
 ghost use Rattle.semantics.specs.Most.{most_readings};
-ghost use Rattle.std.specs.Prelude.{◌≡◌, ◌≤◌, length, Ok, OnOk, IfOk, IfErr, Some};
+ghost use Rattle.std.specs.Option.{ForSome};
+ghost use Rattle.std.specs.Prelude.{◌≡◌, ◌≢◌, ◌≤◌, ◌^◌, length, unsigned_abs, Ok, OnOk, IfOk, IfErr, Some};
 ghost use Rattle.store_file.specs.Added.{HasRoom, IsAddable, with_series};
+ghost use Rattle.store_file.specs.Grown.{IsGrowable, grown_length, grown_store};
 ghost use Rattle.store_file.specs.StoreValue.{IsStoreValue, store_image};
 ghost use Rattle.store_file.specs.Stored.{store_value};
 
@@ -90,6 +93,44 @@ pub(crate) fn add(store: &mut Store, name: Name, xs: &[i32]) -> Result<(), Alloc
             | SeriesErr::TooLong
             | SeriesErr::ArenaFull,
         ) => unreachable!(),
+    }
+}
+
+/// The last reading of a series, where there is such a series.
+pub(crate) fn last_of(alloc: Global, store: &Store, name: Name) -> Result<Option<i32>, Stop>
+    ensures ok { IfOk result (λ last. last_reading_in (store_value store.now) name ≡ Ok last) }
+    ensures small { IfOk result (λ last. ForSome last (λ x. unsigned_abs x ≤ 10 ^ 9)) }
+    ensures refused { IfErr result (λ s. IfRefused s (IsStepRefusal (last_reading_in (store_value store.now) name))) }
+{
+    match store.last_reading(&name) {
+        Ok(last) => Ok(last),
+        Err(e) => Err(refuse(alloc, &Refusal::SeriesFault(name, e))),
+    }
+}
+
+// Why a series was not given readings.
+fn refuse_series(alloc: Global, name: Name, e: SeriesErr) -> Stop
+    ensures { IfRefused result (λ r. (r ≡ series_fault name e) × (e ≢ SeriesErr.Memory)) }
+{
+    match e {
+        SeriesErr::Memory => Stop::Memory,
+        _ => refuse(alloc, &Refusal::SeriesFault(name, e)),
+    }
+}
+
+/// Puts readings behind those of a series, and answers how many it then has.
+pub(crate) fn grow(alloc: Global, store: &mut Store, name: Name, xs: &[i32]) -> Result<u32, Stop>
+    requires small { AreReadings xs.now }
+    requires nodes { HasRoom store.old }
+    ensures ok { OnOk result (short_in (store_value store.old) name xs.now ≡ Ok xs.now) }
+    ensures grown { OnOk result (store_value store.new ≡ grown_store (store_value store.old) name xs.now) }
+    ensures growable { OnOk result (IsGrowable (store_value store.old) name xs.now) }
+    ensures total { IfOk result (λ n. n ≡ grown_length (store_value store.old) name xs.now) }
+    ensures refused { IfErr result (λ s. IfRefused s (IsStepRefusal (short_in (store_value store.old) name xs.now))) }
+{
+    match store.append_series(&name, xs) {
+        Ok(total) => Ok(total),
+        Err(e) => Err(refuse_series(alloc, name, e)),
     }
 }
 

@@ -23,7 +23,8 @@ first_seg segs = get_or segs 0 no_node.seg
 abbrev pub rebuilt : Plan → List Seg → List ℤ → SegTree
 rebuilt (leaf start len) segs xs = tip (first_seg segs) xs
 rebuilt (fork start len l r) segs xs =
-    node (first_seg segs) (rebuilt l (take (count l) (drop 1 segs)) (take (width l) xs)) (rebuilt r (drop (count l) (drop 1 segs)) (drop (width l) xs))
+    node (first_seg segs) (rebuilt l (take (count l) (drop 1 segs)) (take (width l) xs))
+    (rebuilt r (drop (count l) (drop 1 segs)) (drop (width l) xs))
 
 -- the tree over n readings that has these segments and these readings
 abbrev pub rebuilt_series : ℕ → List Seg → List ℤ → Option SegTree
@@ -32,4 +33,5 @@ rebuilt_series (suc n) segs xs = Some (rebuilt (plan 0 (suc n)) segs xs)
 
 -- there is one tree with these segments and these readings
 abbrev pub TreesDiffer : Type 0
-TreesDiffer = (segs : List Seg) (xs : List ℤ) (s t : Option SegTree) → IsTreeWith segs xs s → IsTreeWith segs xs t → s ≡ t
+TreesDiffer = (segs : List Seg) (xs : List ℤ) (s t : Option SegTree) → IsTreeWith segs xs s
+    → IsTreeWith segs xs t → s ≡ t

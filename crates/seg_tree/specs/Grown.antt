@@ -17,11 +17,13 @@ told_series f (x ∷ xs) = Some (tree_by f (plan 0 (length (x ∷ xs))) (x ∷ x
 -- the tree with more readings behind its own: a range that was there keeps its segment, each other has the fit of its
 -- readings
 abbrev pub grown_tree : ℕ → Option SegTree → List ℤ → Option SegTree
-grown_tree degree t more = told_series (kept_or_fit degree (all_readings t ++ more) (all_segs t)) (all_readings t ++ more)
+grown_tree degree t more =
+    told_series (kept_or_fit degree (all_readings t ++ more) (all_segs t)) (all_readings t ++ more)
 
 -- a tree that was fitted and grows is the fitted one over all readings
 abbrev pub FittedTreesGrow : Type 0
-FittedTreesGrow = (degree : ℕ) (xs more : List ℤ) → grown_tree degree (fitted_series degree xs) more ≡ fitted_series degree (xs ++ more)
+FittedTreesGrow = (degree : ℕ) (xs more : List ℤ)
+    → grown_tree degree (fitted_series degree xs) more ≡ fitted_series degree (xs ++ more)
 
 -- a tree that grows is a tree of its readings and those behind them
 pub record GrowsTo (t grown : Option SegTree) (more : List ℤ) : Type 0 where

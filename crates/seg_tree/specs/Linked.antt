@@ -8,7 +8,10 @@ use Rattle.seg_tree.specs.declared.nodes.Below.TheVariants.{Readings, Children}
 
 -- what stands at a place where there is no node
 abbrev pub no_node : Node
-no_node = record { seg = record { start = 0; len = 0; a = pos 0; b = pos 0; c = pos 0; l = 0; d = 0; f = 0 }; below = Readings [] }
+no_node = record {
+  seg = record { start = 0; len = 0; a = pos 0; b = pos 0; c = pos 0; l = 0; d = 0; f = 0 };
+  below = Readings [];
+}
 
 -- the nodes of an arena by their places: each place is used or vacant, and all behind the list are vacant
 abbrev pub Places : Type 0
@@ -65,12 +68,14 @@ right_child (Children left right) = right
 -- from a place on the links lead to nodes as the ranges have them
 abbrev pub IsLinked : Places → ℕ → Plan → Type 0
 IsLinked nodes p (leaf start len) = IsUsed nodes p × IsLeaf len (node_at nodes p).below
-IsLinked nodes p (fork start len l r) = IsUsed nodes p × IsFork (node_at nodes p).below × IsLinked nodes (left_child (node_at nodes p).below) l × IsLinked nodes (right_child (node_at nodes p).below) r
+IsLinked nodes p (fork start len l r) = IsUsed nodes p × IsFork (node_at nodes p).below
+    × IsLinked nodes (left_child (node_at nodes p).below) l × IsLinked nodes (right_child (node_at nodes p).below) r
 
 -- the tree of the nodes from a place on
 abbrev pub tree_at : Places → ℕ → Plan → SegTree
 tree_at nodes p (leaf start len) = tip (node_at nodes p).seg (take len (kept (node_at nodes p).below))
-tree_at nodes p (fork start len l r) = node (node_at nodes p).seg (tree_at nodes (left_child (node_at nodes p).below) l) (tree_at nodes (right_child (node_at nodes p).below) r)
+tree_at nodes p (fork start len l r) = node (node_at nodes p).seg (tree_at nodes (left_child (node_at nodes p).below) l)
+    (tree_at nodes (right_child (node_at nodes p).below) r)
 
 -- the nodes from a place on are this tree
 pub record Holds (nodes : Places) (p : ℕ) (plan : Plan) (t : SegTree) : Type 0 where
@@ -80,4 +85,5 @@ pub record Holds (nodes : Places) (p : ℕ) (plan : Plan) (t : SegTree) : Type 0
 -- the place is one of those of the nodes from p on
 abbrev pub Reaches : Places → ℕ → Plan → ℕ → Type 0
 Reaches nodes p (leaf start len) q = q ≡ p
-Reaches nodes p (fork start len l r) q = (q ≡ p) ⊎ (Reaches nodes (left_child (node_at nodes p).below) l q ⊎ Reaches nodes (right_child (node_at nodes p).below) r q)
+Reaches nodes p (fork start len l r) q = (q ≡ p)
+    ⊎ (Reaches nodes (left_child (node_at nodes p).below) l q ⊎ Reaches nodes (right_child (node_at nodes p).below) r q)

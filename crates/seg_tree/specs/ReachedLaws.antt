@@ -1,4 +1,4 @@
--- What an arena's nodes are to the trees that reach them: what the laws of `ArenaNodes` cite, which may stand here alone.
+-- What an arena's nodes are to the trees that reach them. The laws of `ArenaNodes` cite it, and may cite only specs.
 use Rattle.std.proofs.Common.{◌≡◌, ℕ, zero, suc, ◌<◌, List, [], ◌∷◌, length, map, get_or, Option, Some, None, refl, ap, ◌∙◌, sym, subst, arith}
 use Rattle.std.specs.List.{All}
 use Rattle.std.specs.Option.{option_map}
@@ -19,9 +19,14 @@ series_at : (nodes : Places) (root : Option ℕ) (n : ℕ) → IsTreeAt nodes ro
 series_at nodes None n h = h
 series_at nodes (Some p) n h = h.1
 
-forest-fits : (nodes : Places) (trees : List Tree) → All (IsTreeOf nodes) trees → IsForest (map len_of trees) (map (value_of nodes) trees)
+forest-fits : (nodes : Places) (trees : List Tree) → All (IsTreeOf nodes) trees
+    → IsForest (map len_of trees) (map (value_of nodes) trees)
 forest-fits nodes [] all = tt
-forest-fits nodes (t ∷ ts) all = (series_at nodes t.root t.n (All-head (IsTreeOf nodes) t ts all), forest-fits nodes ts (All-tail (IsTreeOf nodes) t ts all))
+forest-fits nodes (t ∷ ts) all = (
+  series_at nodes t.root t.n (All-head (IsTreeOf nodes) t ts all),
+  forest-fits nodes ts
+      (All-tail (IsTreeOf nodes) t ts all),
+)
 
 pub forest_fits : (s : Reached) (forest : Forest) → Means s forest → IsForest (lengths_of s) forest
 forest_fits s forest means = subst (IsForest (lengths_of s)) (sym means.same) (forest-fits s.nodes s.trees means.trees)
@@ -36,12 +41,20 @@ tree-over : (n : ℕ) (o : Option SegTree) (t : SegTree) → IsSeriesTree n o �
 tree-over n None t h e = cc
 tree-over n (Some u) t h e = let same : u ≡ t = cc in subst (IsTreeOver n) same h
 
-tree-found : (nodes : Places) (trees : List Tree) (k : ℕ) (t : SegTree) → All (IsTreeOf nodes) trees → tree_in (map (value_of nodes) trees) k ≡ Some t → (k < length trees) × IsTreeOver (get_or (map len_of trees) k 0) t
+tree-found : (nodes : Places) (trees : List Tree) (k : ℕ) (t : SegTree) → All (IsTreeOf nodes) trees
+    → tree_in (map (value_of nodes) trees) k ≡ Some t
+    → (k < length trees) × IsTreeOver (get_or (map len_of trees) k 0) t
 tree-found nodes [] k t all e = cc
-tree-found nodes (x ∷ xs) zero t all e = (omega arith, tree-over x.n (value_of nodes x) t (series_at nodes x.root x.n (All-head (IsTreeOf nodes) x xs all)) e)
-tree-found nodes (x ∷ xs) (suc k) t all e = let rest = tree-found nodes xs k t (All-tail (IsTreeOf nodes) x xs all) e in (omega (arith, rest.0), rest.1)
+tree-found nodes (x ∷ xs) zero t all e = (
+  omega arith,
+  tree-over x.n (value_of nodes x) t
+      (series_at nodes x.root x.n (All-head (IsTreeOf nodes) x xs all)) e,
+)
+tree-found nodes (x ∷ xs) (suc k) t all e = let rest = tree-found nodes xs k t (All-tail (IsTreeOf nodes) x xs all) e in
+    (omega (arith, rest.0), rest.1)
 
-pub has_tree : (s : Reached) (k : ℕ) (t : SegTree) → All (IsTreeOf s.nodes) s.trees → tree_in (forest_of s) k ≡ Some t → HasTree s k t
+pub has_tree : (s : Reached) (k : ℕ) (t : SegTree) → All (IsTreeOf s.nodes) s.trees → tree_in (forest_of s) k ≡ Some t
+    → HasTree s k t
 has_tree s k t all e =
     let found = tree-found s.nodes s.trees k t all e in
     record {
@@ -54,8 +67,11 @@ pub root_of-tree_at : (nodes : Places) (id : ℕ) (p : Plan) → root_of (tree_a
 root_of-tree_at nodes id (leaf s n) = refl
 root_of-tree_at nodes id (fork s n l r) = refl
 
-pub stands_over : (s : Reached) (id : ℕ) (p : Place) → (h : Stands s id p) → IsPartOver (get_or (lengths_of s) p.series 0) h.tree (tree_at s.nodes id (plan p.range.start p.range.len)) p.range
-stands_over s id p h = part-over (get_or (lengths_of s) p.series 0) h.tree (tree_at s.nodes id (plan p.range.start p.range.len)) p.range (has_tree s p.series h.tree h.trees h.found).over h.at.part h.at.shaped
+pub stands_over : (s : Reached) (id : ℕ) (p : Place) → (h : Stands s id p)
+    → IsPartOver (get_or (lengths_of s) p.series 0) h.tree (tree_at s.nodes id (plan p.range.start p.range.len)) p.range
+stands_over s id p h = part-over (get_or (lengths_of s) p.series 0) h.tree
+    (tree_at s.nodes id (plan p.range.start p.range.len)) p.range
+    (has_tree s p.series h.tree h.trees h.found).over h.at.part h.at.shaped
 
 pub stands_placed : (s : Reached) (id : ℕ) (p : Place) → Stands s id p → IsPlaceOf (lengths_of s) (roots_of s) p
 stands_placed s id p h =

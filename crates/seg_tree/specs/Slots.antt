@@ -70,7 +70,8 @@ held_if_marked (Vacant before) = None
 -- the children of a marked node are marked
 abbrev pub AreClosed : List Slot → Type 0
 AreClosed slots = (p : ℕ) → IsMarked slots p → IsFork (node_at (map held slots) p).below
-    → IsMarked slots (left_child (node_at (map held slots) p).below) × IsMarked slots (right_child (node_at (map held slots) p).below)
+    → IsMarked slots (left_child (node_at (map held slots) p).below)
+    × IsMarked slots (right_child (node_at (map held slots) p).below)
 
 -- the slot with a mark
 abbrev pub marked : Slot → Slot

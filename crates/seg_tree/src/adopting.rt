@@ -18,7 +18,8 @@ pub(crate) fn adopt_tree(nodes: &mut Places, segs: &[Seg], xs: &[i32]) -> Tree
     requires spare { node_count (length xs.now) ≤ nodes.old.spare }
     ensures tree { IsTreeOf nodes.new.nodes result }
     ensures len { result.n ≡ length xs.now }
-    ensures value { (whole : Option SegTree) → IsTreeWith segs.now xs.now whole → value_of nodes.new.nodes result ≡ whole }
+    ensures value { (whole : Option SegTree) → IsTreeWith segs.now xs.now whole
+        → value_of nodes.new.nodes result ≡ whole }
     ensures extends { Extends nodes.old.nodes nodes.new.nodes }
     ensures count { used nodes.new.nodes ≡ used nodes.old.nodes + node_count (length xs.now) }
 {
@@ -39,7 +40,8 @@ fn adopt_nodes(nodes: &mut Places, segs: &[Seg], xs: &[i32]) -> u32
     ensures extends { Extends nodes.old.nodes nodes.new.nodes }
     ensures count { used nodes.new.nodes ≡ used nodes.old.nodes + node_count (length xs.now) }
     ensures spare { nodes.new.spare + node_count (length xs.now) ≡ nodes.old.spare }
-    ensures holds { (start : ℕ) → Holds nodes.new.nodes result (plan start (length xs.now)) (rebuilt (plan start (length xs.now)) segs.now xs.now) }
+    ensures holds { (start : ℕ) → Holds nodes.new.nodes result (plan start (length xs.now))
+        (rebuilt (plan start (length xs.now)) segs.now xs.now) }
 {
     let seg = segs[0];
     match split(xs.len() as u32) {

@@ -83,7 +83,8 @@ impl Arena {
         ensures len { IfOk result (λ t. t.n ≡ length xs.now) }
         ensures fitted { IfOk result (λ t. value_of self.new.nodes t ≡ fitted_series self.old.degree xs.now) }
         ensures readings { IfOk result (λ t. all_readings (value_of self.new.nodes t) ≡ xs.now) }
-        ensures segs { IfOk result (λ t. all_segs (value_of self.new.nodes t) ≡ map (fit_over self.old.degree xs.now) (shape (length xs.now))) }
+        ensures segs { IfOk result (λ t. all_segs (value_of self.new.nodes t)
+            ≡ map (fit_over self.old.degree xs.now) (shape (length xs.now))) }
 
         ensures extends { Extends self.old.nodes self.new.nodes }
         ensures count { OnOk result (used self.new.nodes ≡ used self.old.nodes + node_count (length xs.now)) }
@@ -91,7 +92,8 @@ impl Arena {
         ensures limit { self.new.limit ≡ self.old.limit }
 
         ensures too_long { (result ≡ Err TreeErr.TooLong) ↔ (2 ^ 20 < length xs.now) }
-        ensures full { (result ≡ Err TreeErr.ArenaFull) ↔ ((length xs.now ≤ 2 ^ 20) × (self.old.limit < used self.old.nodes + node_count (length xs.now))) }
+        ensures full { (result ≡ Err TreeErr.ArenaFull)
+            ↔ ((length xs.now ≤ 2 ^ 20) × (self.old.limit < used self.old.nodes + node_count (length xs.now))) }
         ensures err { OnErr result (self.new ≡ self.old) }
     {
         if xs.len() > 1 << 20 {
@@ -117,10 +119,13 @@ impl Arena {
         requires small { AreReadings xs.now }
         ensures tree { IfOk result (λ t. IsTreeOf self.new.nodes t) }
         ensures len { IfOk result (λ t. t.n ≡ tree.n + length xs.now) }
-        ensures grown { IfOk result (λ t. value_of self.new.nodes t ≡ grown_tree self.old.degree (value_of self.old.nodes tree) xs.now) }
-        ensures readings { IfOk result (λ t. all_readings (value_of self.new.nodes t) ≡ all_readings (value_of self.old.nodes tree) ++ xs.now) }
+        ensures grown { IfOk result (λ t. value_of self.new.nodes t
+            ≡ grown_tree self.old.degree (value_of self.old.nodes tree) xs.now) }
+        ensures readings { IfOk result (λ t. all_readings (value_of self.new.nodes t)
+            ≡ all_readings (value_of self.old.nodes tree) ++ xs.now) }
         ensures segs { IfOk result (λ t. all_segs (value_of self.new.nodes t)
-            ≡ map (kept_or_fit self.old.degree (all_readings (value_of self.old.nodes tree) ++ xs.now) (all_segs (value_of self.old.nodes tree))) (shape (tree.n + length xs.now))) }
+            ≡ map (kept_or_fit self.old.degree (all_readings (value_of self.old.nodes tree) ++ xs.now)
+            (all_segs (value_of self.old.nodes tree))) (shape (tree.n + length xs.now))) }
 
         ensures extends { Extends self.old.nodes self.new.nodes }
         ensures count { OnOk result (used self.new.nodes ≡ used self.old.nodes + made tree.n (tree.n + length xs.now)) }
@@ -130,7 +135,9 @@ impl Arena {
         ensures limit { self.new.limit ≡ self.old.limit }
 
         ensures too_long { (result ≡ Err TreeErr.TooLong) ↔ (2 ^ 20 < tree.n + length xs.now) }
-        ensures full { (result ≡ Err TreeErr.ArenaFull) ↔ ((tree.n + length xs.now ≤ 2 ^ 20) × (self.old.limit < used self.old.nodes + made tree.n (tree.n + length xs.now))) }
+        ensures full { (result ≡ Err TreeErr.ArenaFull)
+            ↔ ((tree.n + length xs.now ≤ 2 ^ 20)
+            × (self.old.limit < used self.old.nodes + made tree.n (tree.n + length xs.now))) }
         ensures err { OnErr result (self.new ≡ self.old) }
     {
         if xs.len() > (1 << 20) - tree.n as usize {
@@ -162,7 +169,8 @@ impl Arena {
         ensures len { IfOk result (λ t. t.n ≡ length xs.now) }
         ensures segs { IfOk result (λ t. all_segs (value_of self.new.nodes t) ≡ segs.now) }
         ensures readings { IfOk result (λ t. all_readings (value_of self.new.nodes t) ≡ xs.now) }
-        ensures value { IfOk result (λ t. (whole : Option SegTree) → IsTreeWith segs.now xs.now whole → value_of self.new.nodes t ≡ whole) }
+        ensures value { IfOk result (λ t. (whole : Option SegTree) → IsTreeWith segs.now xs.now whole
+            → value_of self.new.nodes t ≡ whole) }
 
         ensures extends { Extends self.old.nodes self.new.nodes }
         ensures count { OnOk result (used self.new.nodes ≡ used self.old.nodes + node_count (length xs.now)) }
@@ -170,7 +178,8 @@ impl Arena {
         ensures limit { self.new.limit ≡ self.old.limit }
 
         ensures too_long { result ≡ Err TreeErr.TooLong → ⊥ }
-        ensures full { (result ≡ Err TreeErr.ArenaFull) ↔ (self.old.limit < used self.old.nodes + node_count (length xs.now)) }
+        ensures full { (result ≡ Err TreeErr.ArenaFull)
+            ↔ (self.old.limit < used self.old.nodes + node_count (length xs.now)) }
         ensures err { OnErr result (self.new ≡ self.old) }
     {
         let n = xs.len() as u32;

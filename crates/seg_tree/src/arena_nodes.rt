@@ -127,9 +127,11 @@ fn children_of(nodes: &Places, place: u32) -> Children<u32>
     requires left_within { IsUsed nodes.now.nodes (left_child (node_at nodes.now.nodes place).below) }
     requires right_within { IsUsed nodes.now.nodes (right_child (node_at nodes.now.nodes place).below) }
     ensures left { result.left ≡ left_child (node_at nodes.now.nodes place).below }
-    ensures left_seg { result.left_seg ≡ (node_at nodes.now.nodes (left_child (node_at nodes.now.nodes place).below)).seg }
+    ensures left_seg { result.left_seg
+        ≡ (node_at nodes.now.nodes (left_child (node_at nodes.now.nodes place).below)).seg }
     ensures right { result.right ≡ right_child (node_at nodes.now.nodes place).below }
-    ensures right_seg { result.right_seg ≡ (node_at nodes.now.nodes (right_child (node_at nodes.now.nodes place).below)).seg }
+    ensures right_seg { result.right_seg
+        ≡ (node_at nodes.now.nodes (right_child (node_at nodes.now.nodes place).below)).seg }
 {
     let (left, right) = nodes.node(place).below.children();
     Children {

@@ -45,7 +45,8 @@ pub(crate) fn add_nodes(nodes: &mut Places, xs: &[i32], start: u32, degree: u8) 
     ensures extends { Extends nodes.old.nodes nodes.new.nodes }
     ensures count { used nodes.new.nodes ≡ used nodes.old.nodes + count (plan start (length xs.now)) }
     ensures spare { nodes.new.spare + count (plan start (length xs.now)) ≡ nodes.old.spare }
-    ensures holds { Holds nodes.new.nodes result (plan start (length xs.now)) (fits degree (plan start (length xs.now)) xs.now) }
+    ensures holds { Holds nodes.new.nodes result (plan start (length xs.now))
+        (fits degree (plan start (length xs.now)) xs.now) }
 {
     let seg = fit(xs, start, degree);
     match split(seg.len) {

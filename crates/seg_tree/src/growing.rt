@@ -77,7 +77,9 @@ pub(crate) fn grow_nodes(
     ensures count { used nodes.new.nodes ≡ used nodes.old.nodes + behind old (ranges (plan start len)) }
     ensures spare { nodes.new.spare + behind old (ranges (plan start len)) ≡ nodes.old.spare }
     ensures holds { (t : SegTree) → IsOldPart nodes.old.nodes place start old xs.now t
-        → Holds nodes.new.nodes result (plan start len) (tree_by (kept_or_fit degree xs.now (segs_of t)) (plan start len) (readings_in xs.now (record { start = start; len = len }))) }
+        → Holds nodes.new.nodes result (plan start len)
+        (tree_by (kept_or_fit degree xs.now (segs_of t)) (plan start len)
+        (readings_in xs.now (record { start = start; len = len }))) }
 {
     if start + len == old {
         return place;
@@ -127,10 +129,12 @@ pub(crate) fn grow_tree(nodes: &mut Places, root: u32, old: u32, xs: &[i32], deg
     requires spare { made old (length xs.now) ≤ nodes.old.spare }
     ensures tree { IsTreeOf nodes.new.nodes result }
     ensures len { result.n ≡ length xs.now }
-    ensures told { value_of nodes.new.nodes result ≡ told_series (kept_or_fit degree xs.now (all_segs (value_at nodes.old.nodes (Some root) old))) xs.now }
+    ensures told { value_of nodes.new.nodes result
+        ≡ told_series (kept_or_fit degree xs.now (all_segs (value_at nodes.old.nodes (Some root) old))) xs.now }
     ensures readings { all_readings (value_of nodes.new.nodes result) ≡ xs.now }
     ensures segs { all_segs (value_of nodes.new.nodes result)
-        ≡ map (kept_or_fit degree xs.now (all_segs (value_at nodes.old.nodes (Some root) old))) (shape (length xs.now)) }
+        ≡ map (kept_or_fit degree xs.now (all_segs (value_at nodes.old.nodes (Some root) old)))
+        (shape (length xs.now)) }
     ensures extends { Extends nodes.old.nodes nodes.new.nodes }
     ensures count { used nodes.new.nodes ≡ used nodes.old.nodes + made old (length xs.now) }
 {

@@ -30,7 +30,8 @@ fn last_below(nodes: &Places, place: u32, start: u32, len: u32) -> i32
     requires few { start + len ≤ 2 ^ 20 }
     requires some { 0 < len }
     requires linked { IsLinked nodes.now.nodes place (plan start len) }
-    ensures { (before : Option ℤ) → last_or before (readings_of (tree_at nodes.now.nodes place (plan start len))) ≡ Some result }
+    ensures { (before : Option ℤ) → last_or before (readings_of (tree_at nodes.now.nodes place (plan start len)))
+        ≡ Some result }
 {
     match split(len) {
         None => nodes.node(place).below.readings(len)[len as usize - 1],

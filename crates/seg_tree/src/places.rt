@@ -35,7 +35,10 @@ impl Model for Places {
     ghost use Rattle.std.specs.Prelude.{◌+◌, ◌-◌, length, map, vec_capacity};
     ghost use Rattle.seg_tree.specs.Slots.{AreKept, held};
 
-    ghost view = { λ p. record { nodes = map held p.slots.items; spare = p.vacancies + (vec_capacity p.slots - length p.slots.items) } };
+    ghost view = { λ p. record {
+      nodes = map held p.slots.items;
+      spare = p.vacancies + (vec_capacity p.slots - length p.slots.items);
+    } };
 
     ghost invariant = { λ p. AreKept p.slots.items p.last p.vacancies };
 }

@@ -18,7 +18,8 @@ pub(crate) fn push_segs(
     requires few { start + len ≤ 2 ^ 20 }
     requires some { 0 < len }
     requires linked { IsLinked nodes.now.nodes place (plan start len) }
-    ensures { OnOk result (into.new.items ≡ into.old.items ++ segs_of (tree_at nodes.now.nodes place (plan start len))) }
+    ensures { OnOk result (into.new.items
+        ≡ into.old.items ++ segs_of (tree_at nodes.now.nodes place (plan start len))) }
 {
     into.push(nodes.node(place).seg)?;
     match split(len) {
@@ -43,7 +44,8 @@ pub(crate) fn push_readings(
     requires few { start + len ≤ 2 ^ 20 }
     requires some { 0 < len }
     requires linked { IsLinked nodes.now.nodes place (plan start len) }
-    ensures { OnOk result (into.new.items ≡ into.old.items ++ readings_of (tree_at nodes.now.nodes place (plan start len))) }
+    ensures { OnOk result (into.new.items
+        ≡ into.old.items ++ readings_of (tree_at nodes.now.nodes place (plan start len))) }
 {
     match split(len) {
         None => {

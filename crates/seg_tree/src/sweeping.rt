@@ -16,7 +16,8 @@ pub(crate) fn sweep_slots(slots: &mut [Slot], live: &[Tree]) -> (Option<u32>, u3
     requires unmarked { NoMarks slots.old }
     ensures kept { AreKept slots.new result.0 result.1 }
     ensures reached { (p : ℕ) → IsUsed (map held slots.new) p ↔ IsReached (map held slots.old) live.now p }
-    ensures same { (p : ℕ) → IsUsed (map held slots.new) p → held_at (map held slots.new) p ≡ held_at (map held slots.old) p }
+    ensures same { (p : ℕ) → IsUsed (map held slots.new) p
+        → held_at (map held slots.new) p ≡ held_at (map held slots.old) p }
     ensures fewer { used (map held slots.new) ≤ used (map held slots.old) }
 {
     mark_trees(slots, live);
@@ -30,7 +31,8 @@ fn mark(slots: &mut [Slot], place: u32, start: u32, len: u32)
     requires linked { IsLinked (map held slots.old) place (plan start len) }
     requires closed { AreClosed slots.old }
     ensures nodes { map held slots.new ≡ map held slots.old }
-    ensures marked { (q : ℕ) → IsMarked slots.new q ↔ (IsMarked slots.old q ⊎ Reaches (map held slots.old) place (plan start len) q) }
+    ensures marked { (q : ℕ) → IsMarked slots.new q
+        ↔ (IsMarked slots.old q ⊎ Reaches (map held slots.old) place (plan start len) q) }
     ensures closed { AreClosed slots.new }
 {
     if is_marked(slots, place) {

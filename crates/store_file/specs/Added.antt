@@ -20,7 +20,11 @@ names_in m = map name_of m.series
 -- the store with one more series, which is last and whose nodes are all fitted
 abbrev pub with_series : StoreValue → List ℕ → List ℤ → StoreValue
 with_series m name xs =
-    record { scale = m.scale; degree = m.degree; series = m.series ++ record { name = name; tree = fitted_series m.degree xs } ∷ [] }
+    record {
+      scale = m.scale;
+      degree = m.degree;
+      series = m.series ++ record { name = name; tree = fitted_series m.degree xs } ∷ [];
+    }
 
 -- why no series of a name is added, whatever its readings are
 abbrev pub name_refusal : StoreValue → List ℕ → Option SeriesErr
@@ -54,7 +58,8 @@ pub record IsAddable (m : StoreValue) (name : List ℕ) (xs : List ℤ) : Type 0
 
 -- with such a series it is a store again
 abbrev pub AddingKeepsStores : Type 0
-AddingKeepsStores = (m : StoreValue) (name : List ℕ) (xs : List ℤ) → IsStoreValue m → IsAddable m name xs → IsStoreValue (with_series m name xs)
+AddingKeepsStores = (m : StoreValue) (name : List ℕ) (xs : List ℤ) → IsStoreValue m → IsAddable m name xs
+    → IsStoreValue (with_series m name xs)
 
 -- room for the nodes of the longest series
 abbrev pub HasRoom : StoreParts → Type 0
@@ -62,4 +67,5 @@ HasRoom s = used s.arena.nodes + 2 ^ 17 ≤ s.arena.limit
 
 -- with room only the name of a short series may be refused
 abbrev pub RoomIsEnough : Type 0
-RoomIsEnough = (s : StoreParts) (name : List ℕ) (xs : List ℤ) → HasRoom s → length xs ≤ 2 ^ 20 → add_refusal s name xs ≡ name_refusal (store_value s) name
+RoomIsEnough = (s : StoreParts) (name : List ℕ) (xs : List ℤ) → HasRoom s → length xs ≤ 2 ^ 20
+    → add_refusal s name xs ≡ name_refusal (store_value s) name

@@ -46,7 +46,8 @@ with_entry place others (Some e) = before e (others e)
 abbrev pub entries_in : ℕ → ℕ → List (List ℕ) → List ℕ → Result (List Entry) ℕ
 entries_in zero place seen bytes = Ok []
 entries_in (suc k) place seen bytes =
-    with_entry place (λ e. entries_in k (place + entry_size e) (e.name ∷ seen) (drop (entry_size e) bytes)) (if_new seen (first_entry bytes))
+    with_entry place (λ e. entries_in k (place + entry_size e) (e.name ∷ seen) (drop (entry_size e) bytes))
+    (if_new seen (first_entry bytes))
 
 abbrev pub names_of : List Entry → List (List ℕ)
 names_of es = map entry_name es
@@ -73,7 +74,8 @@ series_tree (suc n) bytes = Some (tree_in (plan 0 (suc n)) bytes)
 -- the series of these entries, whose trees stand one after another
 abbrev pub series_in : List Entry → List ℕ → List Series
 series_in [] bytes = []
-series_in (e ∷ es) bytes = record { name = e.name; tree = series_tree e.n bytes } ∷ series_in es (drop (tree_size e.n) bytes)
+series_in (e ∷ es) bytes = record { name = e.name; tree = series_tree e.n bytes }
+    ∷ series_in es (drop (tree_size e.n) bytes)
 
 -- the refusal of a node of a series
 abbrev pub bad_node : List ℕ → Seg → StoreErr
@@ -108,7 +110,8 @@ by_series f ss = by_nodes f ss (bad_in ss)
 abbrev pub by_entries : List ℕ → Fixed → Result (List Entry) ℕ → Result StoreValue StoreErr
 by_entries bytes f (Err place) = Err (NotAStore place)
 by_entries bytes f (Ok es) =
-    if length bytes == header_size es + trees_size es then by_series f (series_in es (drop (header_size es) bytes)) else Err (NotAStore (header_size es))
+    if length bytes == header_size es + trees_size es then by_series f (series_in es (drop (header_size es) bytes))
+    else Err (NotAStore (header_size es))
 
 abbrev pub by_fixed : List ℕ → Result Fixed ℕ → Result StoreValue StoreErr
 by_fixed bytes (Err place) = Err (NotAStore place)

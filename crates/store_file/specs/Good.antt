@@ -9,11 +9,14 @@ use Rattle.tree_file.specs.Offsets.{range}
 
 -- whether a segment tells the measures of its curve over the readings
 unfoldable pub is_measured : List ℤ → Seg → Bool
-is_measured xs g = (g.len == length xs) && ((g.l == miss (curve_of g) xs) && ((g.d == greatest_reading xs) && (g.f == greatest_estimate (curve_of g) (length xs))))
+is_measured xs g = (g.len == length xs)
+    && ((g.l == miss (curve_of g) xs)
+    && ((g.d == greatest_reading xs) && (g.f == greatest_estimate (curve_of g) (length xs))))
 
 -- whether a segment is true of the readings, which are within 10 ^ 9
 unfoldable pub is_good : List ℤ → Seg → Bool
-is_good xs g = nat_le (greatest_reading xs) (10 ^ 9) && (is_bounded (curve_of g) (length xs) (greatest_reading xs) && is_measured xs g)
+is_good xs g = nat_le (greatest_reading xs) (10 ^ 9)
+    && (is_bounded (curve_of g) (length xs) (greatest_reading xs) && is_measured xs g)
 
 -- the readings of a segment, of those of its series
 abbrev pub own_readings : List ℤ → Seg → List ℤ

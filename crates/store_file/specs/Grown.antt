@@ -28,7 +28,11 @@ grown_series degree (s ∷ ss) name more =
 -- the store with more readings behind those of the series of a name: what was there keeps its segments, and each node
 -- of another range is fitted
 abbrev pub grown_store : StoreValue → List ℕ → List ℤ → StoreValue
-grown_store m name more = record { scale = m.scale; degree = m.degree; series = grown_series m.degree m.series name more }
+grown_store m name more = record {
+  scale = m.scale;
+  degree = m.degree;
+  series = grown_series m.degree m.series name more;
+}
 
 -- ---- refusals
 
@@ -39,7 +43,8 @@ grown_length m name more = length (readings_named m.series name) + length more
 -- why no readings are added to a series of this name, whatever room there is
 abbrev pub growth_refusal : StoreValue → List ℕ → List ℤ → Option SeriesErr
 growth_refusal m name more =
-    if has_name (names_in m) name then (if nat_lt (2 ^ 20) (grown_length m name more) then Some refusal.TooLong else None)
+    if has_name (names_in m) name
+    then (if nat_lt (2 ^ 20) (grown_length m name more) then Some refusal.TooLong else None)
     else Some refusal.Unknown
 
 -- how many nodes are made
@@ -49,7 +54,8 @@ made_in m name more = made (length (readings_named m.series name)) (grown_length
 -- why an arena has no room for them
 abbrev pub room_refusal : StoreParts → List ℕ → List ℤ → Option SeriesErr
 room_refusal s name more =
-    if nat_lt s.arena.limit (used s.arena.nodes + made_in (store_value s) name more) then Some refusal.ArenaFull else None
+    if nat_lt s.arena.limit (used s.arena.nodes + made_in (store_value s) name more) then Some refusal.ArenaFull
+    else None
 
 -- why readings are not added
 abbrev pub append_refusal : StoreParts → List ℕ → List ℤ → Option SeriesErr
@@ -66,11 +72,13 @@ pub record IsGrowable (m : StoreValue) (name : List ℕ) (more : List ℤ) : Typ
 
 -- with such readings it is a store again
 abbrev pub GrowingKeepsStores : Type 0
-GrowingKeepsStores = (m : StoreValue) (name : List ℕ) (more : List ℤ) → IsStoreValue m → IsGrowable m name more → IsStoreValue (grown_store m name more)
+GrowingKeepsStores = (m : StoreValue) (name : List ℕ) (more : List ℤ) → IsStoreValue m → IsGrowable m name more
+    → IsStoreValue (grown_store m name more)
 
 -- with room only a series that isn't there, or would be too long, is refused
 abbrev pub GrowthHasRoom : Type 0
-GrowthHasRoom = (s : StoreParts) (name : List ℕ) (more : List ℤ) → HasRoom s → append_refusal s name more ≡ growth_refusal (store_value s) name more
+GrowthHasRoom = (s : StoreParts) (name : List ℕ) (more : List ℤ) → HasRoom s
+    → append_refusal s name more ≡ growth_refusal (store_value s) name more
 
 -- each node of each series is the fit of its readings
 abbrev pub AreFitted : ℕ → List Series → Type 0
@@ -94,11 +102,13 @@ contents_of m = map named_readings m.series
 
 -- a fitted store stays one, however it grows
 abbrev pub FittedStoresStay : Type 0
-FittedStoresStay = (m : StoreValue) (name : List ℕ) (xs : List ℤ) → IsFitted m → IsFitted (with_series m name xs) × IsFitted (grown_store m name xs)
+FittedStoresStay = (m : StoreValue) (name : List ℕ) (xs : List ℤ) → IsFitted m
+    → IsFitted (with_series m name xs) × IsFitted (grown_store m name xs)
 
 -- two fitted stores of the same scale, degree, names and readings are one, and so are their bytes
 abbrev pub FittedStoresAreOne : Type 0
-FittedStoresAreOne = (m n : StoreValue) → IsFitted m → IsFitted n → m.scale ≡ n.scale → m.degree ≡ n.degree → contents_of m ≡ contents_of n → m ≡ n
+FittedStoresAreOne = (m n : StoreValue) → IsFitted m → IsFitted n → m.scale ≡ n.scale → m.degree ≡ n.degree
+    → contents_of m ≡ contents_of n → m ≡ n
 
 -- a series that was loaded and then given more readings is as if it had been loaded with all of them
 abbrev pub AppendsAreLoads : Type 0

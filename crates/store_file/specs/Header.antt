@@ -17,7 +17,12 @@ fixed_of bytes =
     (if nat_lt 6 (byte_at bytes 5) then Err 5 else
     (if nat_lt 2 (byte_at bytes 6) then Err 6 else
     (if nat_lt 16 (byte_at bytes 7) then Err 7 else
-    Ok (record { version = byte_at bytes 4; scale = byte_at bytes 5; degree = byte_at bytes 6; count = byte_at bytes 7 })))))
+    Ok (record {
+      version = byte_at bytes 4;
+      scale = byte_at bytes 5;
+      degree = byte_at bytes 6;
+      count = byte_at bytes 7;
+    })))))
 
 -- the length of an entry whose first byte is this
 abbrev pub entry_len_of : ℕ → Option ℕ
@@ -30,12 +35,15 @@ is_entry k rest = (length rest == k + 4) && (is_name (take k rest) && nat_le (nu
 -- the one entry that these bytes are
 abbrev pub entry_of : List ℕ → Option Entry
 entry_of [] = None
-entry_of (k ∷ rest) = if is_entry k rest then Some (record { name = take k rest; n = number_of 4 (drop k rest) }) else None
+entry_of (k ∷ rest) = if is_entry k rest then Some (record { name = take k rest; n = number_of 4 (drop k rest) })
+    else None
 
 -- the fixed part and the entries are read as they were written
 abbrev pub FixedReadsBack : Type 0
 FixedReadsBack = (scale degree count : ℕ) → scale ≤ 6 → degree ≤ 2 → count ≤ 16
-    → fixed_of (fixed_bytes scale degree count) ≡ Ok (record { version = 1; scale = scale; degree = degree; count = count })
+    → fixed_of (fixed_bytes scale degree count)
+    ≡ Ok (record { version = 1; scale = scale; degree = degree; count = count })
 
 abbrev pub EntryReadsBack : Type 0
-EntryReadsBack = (name : List ℕ) (n : ℕ) → is_name name ≡ true → n ≤ 2 ^ 20 → entry_of (entry_bytes name n) ≡ Some (record { name = name; n = n })
+EntryReadsBack = (name : List ℕ) (n : ℕ) → is_name name ≡ true → n ≤ 2 ^ 20
+    → entry_of (entry_bytes name n) ≡ Some (record { name = name; n = n })

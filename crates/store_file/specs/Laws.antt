@@ -10,4 +10,5 @@ ImageDecodes = (m : StoreValue) → IsStoreValue m → decode_of (store_image m)
 
 -- what decodes is the bytes of the store that it decodes to
 abbrev pub DecodedIsImage : Type 0
-DecodedIsImage = (bytes : List ℕ) (m : StoreValue) → IsBytes bytes → decode_of bytes ≡ Ok m → (store_image m ≡ bytes) × IsStoreValue m
+DecodedIsImage = (bytes : List ℕ) (m : StoreValue) → IsBytes bytes → decode_of bytes ≡ Ok m
+    → (store_image m ≡ bytes) × IsStoreValue m

@@ -1,5 +1,6 @@
 -- The bytes of small stores, worked out.
 use Rattle.std.specs.Prelude.{◌≡◌, ℕ, zero, suc, ℤ, pos, negsuc, codes, List, [], ◌∷◌, ◌++◌, length, take, drop, replicate, Some}
+use Rattle.segment.specs.declared.segments.Seg.{Seg}
 use Rattle.segment.specs.Tree.{tip, fitted_series}
 use Rattle.store_file.specs.StoreValue.{StoreValue, store_image}
 
@@ -19,14 +20,18 @@ OneReadingHasBytes = store_image (store_with (pos 7 ∷ []))
     ++ (0 ∷ 0 ∷ 0 ∷ 0 ∷ 0 ∷ 1 ∷ 192 ∷ 0 ∷ [])
     ++ (0 ∷ 0 ∷ 0 ∷ 7 ∷ [])
 
--- a record whose six fields all differ, one of them below zero, over the one reading 8
+-- six fields that all differ, one of them below zero
+abbrev pub one_to_six : Seg
+one_to_six = record { start = 0; len = 1; a = pos 1; b = negsuc 1; c = pos 3; l = 4; d = 5; f = 6 }
+
+-- a record of these over the one reading 8
 abbrev pub six_fields : StoreValue
 six_fields = record {
   scale = 0;
   degree = 2;
   series = record {
     name = codes "x";
-    tree = Some (tip (record { start = 0; len = 1; a = pos 1; b = negsuc 1; c = pos 3; l = 4; d = 5; f = 6 }) (pos 8 ∷ []));
+    tree = Some (tip one_to_six (pos 8 ∷ []));
   } ∷ [];
 }
 

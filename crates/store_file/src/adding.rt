@@ -52,7 +52,8 @@ impl Store {
         ensures stay { OnErr result (self.new ≡ self.old) }
 
         ensures extends { Extends self.old.arena.nodes self.new.arena.nodes }
-        ensures count { OnOk result (used self.new.arena.nodes ≡ used self.old.arena.nodes + node_count (length xs.now)) }
+        ensures count { OnOk result (used self.new.arena.nodes
+            ≡ used self.old.arena.nodes + node_count (length xs.now)) }
         ensures limit { self.new.arena.limit ≡ self.old.arena.limit }
     {
         if let Some(refusal) = self.name_refusal(&name) {

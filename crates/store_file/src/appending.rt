@@ -10,18 +10,21 @@ use crate::{SeriesErr, Store, Stored};
 use expr::Name;
 
 impl Store {
-    /// Puts readings behind those of a series, and answers how many it then has. After a refusal the store is as before.
+    /// Puts readings behind those of a series, and answers how many it then has. After a refusal the store is as
+    /// before.
     pub fn append_series(&mut self, name: &Name, xs: &[i32]) -> Result<u32, SeriesErr>
         requires { AreReadings xs.now }
         ensures grown { OnOk result (store_value self.new ≡ grown_store (store_value self.old) name.now xs.now) }
         ensures growable { OnOk result (IsGrowable (store_value self.old) name.now xs.now) }
         ensures len { IfOk result (λ n. n ≡ grown_length (store_value self.old) name.now xs.now) }
         ensures ok { OnOk result (append_refusal self.old name.now xs.now ≡ None) }
-        ensures refused { IfErr result (λ e. (e ≡ SeriesErr.Memory) ⊎ (append_refusal self.old name.now xs.now ≡ Some e)) }
+        ensures refused { IfErr result (λ e. (e ≡ SeriesErr.Memory)
+            ⊎ (append_refusal self.old name.now xs.now ≡ Some e)) }
         ensures kept { OnErr result (self.new ≡ self.old) }
 
         ensures extends { Extends self.old.arena.nodes self.new.arena.nodes }
-        ensures count { OnOk result (used self.new.arena.nodes ≡ used self.old.arena.nodes + made_in (store_value self.old) name.now xs.now) }
+        ensures count { OnOk result (used self.new.arena.nodes
+            ≡ used self.old.arena.nodes + made_in (store_value self.old) name.now xs.now) }
         ensures limit { self.new.arena.limit ≡ self.old.arena.limit }
     {
         let Some(stored) = self.series.get(name) else {

@@ -60,7 +60,8 @@ pub fn decode(alloc: Global, bytes: &[u8]) -> Result<Store, StoreErr>
     // In plain words: a store is answered exactly where it has these bytes.
     ensures stands { IfOk result (λ s. store_image (store_value s) ≡ bytes.now) }
     ensures store { IfOk result (λ s. IsStoreValue (store_value s)) }
-    ensures found { (m : StoreValue) → IsStoreValue m → store_image m ≡ bytes.now → MatchResult result (λ s. store_value s ≡ m) (λ e. e ≡ StoreErr.Memory) }
+    ensures found { (m : StoreValue) → IsStoreValue m → store_image m ≡ bytes.now
+        → MatchResult result (λ s. store_value s ≡ m) (λ e. e ≡ StoreErr.Memory) }
 
     // Its arena has room for every series that can still be added.
     ensures limit { IfOk result (λ s. s.arena.limit ≡ 2 ^ 24) }
@@ -118,7 +119,8 @@ fn read_series(
     requires short { All IsShort entries.now }
     requires room { length bytes.now ≡ trees_size entries.now }
     ensures ok { IfOk result (λ s. by_series fixed (series_in entries.now bytes.now) ≡ Ok (store_value s)) }
-    ensures err { IfErr result (λ e. (e ≡ StoreErr.Memory) ⊎ (by_series fixed (series_in entries.now bytes.now) ≡ Err e)) }
+    ensures err { IfErr result (λ e. (e ≡ StoreErr.Memory)
+        ⊎ (by_series fixed (series_in entries.now bytes.now) ≡ Err e)) }
     ensures limit { IfOk result (λ s. s.arena.limit ≡ 2 ^ 24) }
     ensures room { IfOk result (λ s. used s.arena.nodes ≤ 2 ^ 21) }
 {

@@ -37,7 +37,9 @@ pub(crate) fn push_header(
     into: &mut Vec<u8>,
 ) -> Result<(), AllocError>
     requires { length series.now.entries ≤ 16 }
-    ensures { OnOk result (into.new.items ≡ into.old.items ++ (fixed_bytes scale degree (length series.now.entries) ++ stored_entries series.now.entries)) }
+    ensures { OnOk result (into.new.items
+        ≡ into.old.items ++ (fixed_bytes scale degree (length series.now.entries)
+        ++ stored_entries series.now.entries)) }
 {
     let fixed = Fixed {
         version: VERSION,

@@ -48,8 +48,8 @@ pub fn growth_has_room()
     ensures { GrowthHasRoom }
 {}
 
-/// What loads and appends make is fitted, and names and readings are all that it depends on: so a store to which readings
-/// were appended has the bytes of one that was loaded with all of them.
+/// What loads and appends make is fitted, and names and readings are all that it depends on: so a store to which
+/// readings were appended has the bytes of one that was loaded with all of them.
 pub fn appends_are_loads()
     ensures stay { FittedStoresStay }
     ensures one { FittedStoresAreOne }

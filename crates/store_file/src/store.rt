@@ -37,7 +37,12 @@ impl Model for Store {
 
     ghost view = { λ s. record { scale = s.scale; degree = s.degree; entries = s.series.entries; arena = s.arena } };
 
-    ghost invariant = { λ s. IsSound (record { scale = s.scale; degree = s.degree; entries = s.series.entries; arena = s.arena }) };
+    ghost invariant = { λ s. IsSound (record {
+      scale = s.scale;
+      degree = s.degree;
+      entries = s.series.entries;
+      arena = s.arena;
+    }) };
 }
 
 impl Store {
@@ -47,7 +52,12 @@ impl Store {
         requires degree { degree ≤ 2 }
         requires some { 1 ≤ limit }
         requires few { limit ≤ 2 ^ 24 }
-        ensures { result ≡ Ok (record { scale = scale; degree = degree; entries = []; arena = record { nodes = []; degree = degree; limit = limit } }) }
+        ensures { result ≡ Ok (record {
+          scale = scale;
+          degree = degree;
+          entries = [];
+          arena = record { nodes = []; degree = degree; limit = limit };
+        }) }
     {
         Ok(Store {
             alloc,

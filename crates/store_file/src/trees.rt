@@ -25,7 +25,8 @@ pub(crate) fn push_trees(
     into: &mut Vec<u8>,
 ) -> Result<(), Memory>
     requires { AreOf arena.now.nodes series.now.entries }
-    ensures { OnOk result (into.new.items ≡ into.old.items ++ trees_image (series_of arena.now.nodes series.now.entries)) }
+    ensures { OnOk result (into.new.items
+        ≡ into.old.items ++ trees_image (series_of arena.now.nodes series.now.entries)) }
 {
     for i in 0..series.len() {
         let (_name, stored) = entry_at(series, i);

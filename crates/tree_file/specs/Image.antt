@@ -34,4 +34,5 @@ tree_size (suc n) = size (plan 0 (suc n))
 abbrev pub tree_in : Plan → List ℕ → SegTree
 tree_in (leaf start len) bytes = tip (seg_in (take 56 bytes) start len) (words_in len (drop 56 bytes))
 tree_in (fork start len left right) bytes =
-    node (seg_in (take 56 bytes) start len) (tree_in left (drop 56 bytes)) (tree_in right (drop (size left) (drop 56 bytes)))
+    node (seg_in (take 56 bytes) start len) (tree_in left (drop 56 bytes))
+    (tree_in right (drop (size left) (drop 56 bytes)))

@@ -15,19 +15,23 @@ UnsignedReadsBack = (n x : ℕ) (rest : List ℕ) → x < 256 ^ n → number_of 
 
 -- every n bytes are the writing of what is read
 abbrev pub UnsignedWritesBack : Type 0
-UnsignedWritesBack = (n : ℕ) (bytes : List ℕ) → length bytes ≡ n → IsBytes bytes → bytes_of n (number_of n bytes) ≡ bytes
+UnsignedWritesBack = (n : ℕ) (bytes : List ℕ) → length bytes ≡ n → IsBytes bytes
+    → bytes_of n (number_of n bytes) ≡ bytes
 
 abbrev pub SignedReadsBack : Type 0
-SignedReadsBack = (n : ℕ) (z : ℤ) (rest : List ℕ) → 1 ≤ n → IsSignedOf n z → unwrapped n (number_of n (bytes_of n (wrapped n z) ++ rest)) ≡ z
+SignedReadsBack = (n : ℕ) (z : ℤ) (rest : List ℕ) → 1 ≤ n → IsSignedOf n z
+    → unwrapped n (number_of n (bytes_of n (wrapped n z) ++ rest)) ≡ z
 
 abbrev pub SignedWritesBack : Type 0
-SignedWritesBack = (n : ℕ) (bytes : List ℕ) → 1 ≤ n → length bytes ≡ n → IsBytes bytes → bytes_of n (wrapped n (unwrapped n (number_of n bytes))) ≡ bytes
+SignedWritesBack = (n : ℕ) (bytes : List ℕ) → 1 ≤ n → length bytes ≡ n → IsBytes bytes
+    → bytes_of n (wrapped n (unwrapped n (number_of n bytes))) ≡ bytes
 
 abbrev pub RecordReadsBack : Type 0
 RecordReadsBack = (s : Seg) → FitsRecord s → seg_in (record_of s) s.start s.len ≡ s
 
 abbrev pub RecordWritesBack : Type 0
-RecordWritesBack = (bytes : List ℕ) (start len : ℕ) → length bytes ≡ 56 → IsBytes bytes → record_of (seg_in bytes start len) ≡ bytes
+RecordWritesBack = (bytes : List ℕ) (start len : ℕ) → length bytes ≡ 56 → IsBytes bytes
+    → record_of (seg_in bytes start len) ≡ bytes
 
 abbrev pub TreeReadsBack : Type 0
 TreeReadsBack = (n : ℕ) (t : SegTree) (rest : List ℕ) → IsTreeOver n t → tree_in (plan 0 n) (image t ++ rest) ≡ t
@@ -42,5 +46,6 @@ TreeHasSize = (n : ℕ) (t : SegTree) → IsTreeOver n t → length (image t) �
 
 -- at the offset of a node of a tree stands its record
 abbrev pub RecordStands : Type 0
-RecordStands = (n k : ℕ) (t : SegTree) (r : Range) (g : Seg) → IsTreeOver n t → find_seg (segs_of t) r ≡ Some g → record_offset n r ≡ Some k
+RecordStands = (n k : ℕ) (t : SegTree) (r : Range) (g : Seg) → IsTreeOver n t → find_seg (segs_of t) r ≡ Some g
+    → record_offset n r ≡ Some k
     → take 56 (drop k (image t)) ≡ record_of g

@@ -22,7 +22,8 @@ first_of (Some x) o = Some x
 abbrev pub offset_in : Plan → Range → Option ℕ
 offset_in (leaf start len) r = if is_range start len r then Some 0 else None
 offset_in (fork start len left right) r =
-    if is_range start len r then Some 0 else first_of (moved 56 (offset_in left r)) (moved (56 + size left) (offset_in right r))
+    if is_range start len r then Some 0
+    else first_of (moved 56 (offset_in left r)) (moved (56 + size left) (offset_in right r))
 
 -- the same of the tree over n readings; none has no tree
 abbrev pub record_offset : ℕ → Range → Option ℕ

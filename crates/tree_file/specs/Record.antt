@@ -4,7 +4,9 @@ use Rattle.segment.specs.declared.segments.Seg.{Seg}
 use Rattle.tree_file.specs.Bytes.{IsSignedOf, bytes_of, number_of, wrapped, unwrapped}
 
 unfoldable pub record_of : Seg → List ℕ
-record_of s = bytes_of 8 (wrapped 8 s.a) ++ (bytes_of 8 (wrapped 8 s.b) ++ (bytes_of 8 (wrapped 8 s.c) ++ (bytes_of 16 s.l ++ (bytes_of 8 s.d ++ bytes_of 8 s.f))))
+record_of s = bytes_of 8 (wrapped 8 s.a)
+    ++ (bytes_of 8 (wrapped 8 s.b)
+    ++ (bytes_of 8 (wrapped 8 s.c) ++ (bytes_of 16 s.l ++ (bytes_of 8 s.d ++ bytes_of 8 s.f))))
 
 -- the segment that a record writes
 unfoldable pub seg_in : List ℕ → ℕ → ℕ → Seg

@@ -233,7 +233,7 @@ back-replaced (h ∷ hs) new start r closed s alone back = elim (cases_Bool (is_
       rw (f, ne_eqb h.row.seg.start r.seg.start ne) (ap (λ ks. h ∷ ks) (back-replaced hs new start r closed s (λ k m. alone k (inr m)) back))
 ]
 
-closed-there : {I : Type 0} → (start : ℕ) (r : Row I) → r.seg.start ≡ start → r.readings ≡ None → is_closed_at start (held r) ≡ true
+pub closed-there : {I : Type 0} → (start : ℕ) (r : Row I) → r.seg.start ≡ start → r.readings ≡ None → is_closed_at start (held r) ≡ true
 closed-there start r s c = rw (c, s) (eq-eqb start start refl)
 
 back-open : {I : Type 0} → (old : Held I) (o : Held I) (hs : List (Held I)) → o.row.seg ≡ old.row.seg → restored old (o ∷ hs) ≡ old ∷ hs

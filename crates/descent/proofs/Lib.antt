@@ -19,3 +19,4 @@ pub mod SoundSteps
 pub mod Framing
 pub mod Going
 pub mod ChoiceLaws
+pub mod SpentLaws

@@ -26,7 +26,7 @@ use Rattle.error_prop.proofs.QueryLaws.{queries_hold}
 use Rattle.error_prop.proofs.QueryOverLaws.{hold_over}
 use Rattle.descent.specs.Sums.{interval_in}
 use Rattle.descent.specs.Descents.{Node, Nodes, row_of, cut_of}
-use Rattle.descent.specs.Laws.{readings_in, readings_by}
+use Rattle.descent.specs.Below.{readings_in, readings_by}
 
 -- a tree that lies over its readings from a position on, each of its segments true
 abbrev pub IsTrueFrom : ℕ → SegTree → Type 0

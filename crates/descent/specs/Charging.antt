@@ -62,7 +62,8 @@ charge_from charges at row = if is_some row.readings then 0 else slice_index cha
 abbrev pub charged_from : ℕ → List ℕ → ℕ → List Row → List Charged
 charged_from series charges at [] = []
 charged_from series charges at (row ∷ rows) =
-    record { series = series; start = row.seg.start; charge = charge_from charges at row } ∷ charged_from series charges (at + length (segs_of_row row)) rows
+    record { series = series; start = row.seg.start; charge = charge_from charges at row }
+    ∷ charged_from series charges (at + length (segs_of_row row)) rows
 
 abbrev pub charged_on : List ℕ → ℕ → Cut → List Charged
 charged_on charges at [] = []

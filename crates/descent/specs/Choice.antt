@@ -50,7 +50,9 @@ side_by_side (s ∷ ss) (l ∷ ls) = record { sum = s; says = l } ∷ side_by_si
 
 -- the sums of a query from left to right, none of which counts where there is no interval
 abbrev pub lines_in : Cut → QueryTerm → List Line
-lines_in cut q = side_by_side (sums_of q) (lines_of q (sums_over (entries cut) q) (if is_some (interval_in cut q) then 1 else 0))
+lines_in cut q =
+    let once = if is_some (interval_in cut q) then 1 else 0 in
+    side_by_side (sums_of q) (lines_of q (sums_over (entries cut) q) once)
 
 -- the error of a sum in whole numbers, rounded up
 abbrev pub whole_error : SumLine → ℕ
@@ -66,7 +68,11 @@ weight_of line = says_weight line.says
 -- ---- rows with their charges
 
 abbrev pub charged_row : Cut → SumTerm → Track Row → Row → Charged
-charged_row cut s track row = record { series = track.series; start = row.seg.start; charge = charge_of cut s track.name row }
+charged_row cut s track row = record {
+  series = track.series;
+  start = row.seg.start;
+  charge = charge_of cut s track.name row;
+}
 
 -- the rows of some tracks of a cut, from the least series and start on
 abbrev pub charged_in : Cut → SumTerm → List (Track Row) → List Charged

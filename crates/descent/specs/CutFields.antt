@@ -22,7 +22,11 @@ before_of tracks None = None
 before_of tracks (Some change) = Some (restored_at change.table (held change.row) tracks)
 
 abbrev pub view_of : {I : Type 0} → Inside I → CutView I
-view_of c = record { query = spelled (query_term_of c.query); tracks = c.tables.items; before = before_of c.tables.items c.last }
+view_of c = record {
+  query = spelled (query_term_of c.query);
+  tracks = c.tables.items;
+  before = before_of c.tables.items c.last;
+}
 
 abbrev pub CanGoBackAt : {I : Type 0} → ℕ → Row I → List (Track (Held I)) → Type 0
 CanGoBackAt k old [] = ⊥

@@ -1,4 +1,5 @@
--- The descent: from the roots, the chosen row gives way to those below it, until the interval is no wider than a budget.
+-- The descent: from the roots, the chosen row gives way to those below it, until the interval is no wider than a
+-- budget.
 use Rattle.std.specs.Prelude.{◌≡◌, ℕ, zero, suc, ◌+◌, ◌<◌, ◌≤◌, ◌==◌, ◌&&◌, not, Bool, true, false, if◌then◌else◌, Option, Some, None, List, [], ◌∷◌, ◌++◌, length, map}
 use Rattle.std.specs.List.{list_any}
 use Rattle.semantics.specs.Admission.{query_names}
@@ -51,13 +52,20 @@ greatest_of None = 0
 greatest_of (Some t) = (root_of t).d
 
 abbrev pub root_track : ℕ → List ℕ → Option SegTree → Track Node
-root_track k name t = record { series = k; name = name; len = length (all_readings t); greatest = greatest_of t; rows = root_nodes t }
+root_track k name t = record {
+  series = k;
+  name = name;
+  len = length (all_readings t);
+  greatest = greatest_of t;
+  rows = root_nodes t;
+}
 
 -- the roots of the series that a query names, where the series from the k-th on have these names
 abbrev pub roots_from : QueryTerm → Forest → ℕ → List (List ℕ) → Nodes
 roots_from q forest k [] = []
 roots_from q forest k (name ∷ names) =
-    if list_any (same_name name) (query_names q) then root_track k name (tree_in forest k) ∷ roots_from q forest (k + 1) names
+    if list_any (same_name name) (query_names q)
+    then root_track k name (tree_in forest k) ∷ roots_from q forest (k + 1) names
     else roots_from q forest (k + 1) names
 
 abbrev pub roots : QueryTerm → Forest → List (List ℕ) → Nodes

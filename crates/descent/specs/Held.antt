@@ -15,7 +15,8 @@ pub record Held (I : Type 0) : Type 0 where
   pub id : I
   pub row : Row
 
--- what contracts see of a cut: the query for which it was made, the rows of each series that this names, and what these were before
+-- what contracts see of a cut: the query for which it was made, the rows of each series that this names, and what
+-- these were before
 -- the last step, where there was one that was not taken back
 pub record CutView (I : Type 0) : Type 0 where
   pub query : List Token
@@ -45,14 +46,17 @@ place_of series row = record { series = series; range = record { start = row.seg
 abbrev pub StandsFor : {I : Type 0} → (I → Place → Type 0) → ℕ → Held I → Type 0
 StandsFor stands series h = stands h.id (place_of series h.row)
 
--- a track is of the nodes: the length and the greatest reading are those of its series, and the ids stand for the rows' nodes
-pub record IsTrackOf {I : Type 0} (lengths : List ℕ) (roots : List (Option Seg)) (stands : I → Place → Type 0) (track : Track (Held I)) : Type 0 where
+-- a track is of the nodes: the length and the greatest reading are those of its series, and the ids stand for the
+-- rows' nodes
+pub record IsTrackOf {I : Type 0} (lengths : List ℕ) (roots : List (Option Seg))
+    (stands : I → Place → Type 0) (track : Track (Held I)) : Type 0 where
   pub within : track.series < length lengths
   pub len : track.len ≡ slice_index lengths track.series
   pub rooted : 0 < track.len → (g : Seg) × (known_root roots track.series ≡ Some g) × (track.greatest ≡ g.d)
   pub stand : All (StandsFor stands track.series) track.rows
 
-abbrev pub AreTracksOf : {I : Type 0} → List ℕ → List (Option Seg) → (I → Place → Type 0) → List (Track (Held I)) → Type 0
+abbrev pub AreTracksOf : {I : Type 0} → List ℕ → List (Option Seg) → (I → Place → Type 0) → List (Track (Held I))
+    → Type 0
 AreTracksOf lengths roots stands tracks = All (IsTrackOf lengths roots stands) tracks
 
 -- a node is a part of the tree of its series

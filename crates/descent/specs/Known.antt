@@ -36,7 +36,8 @@ root_head lengths roots k name = record {
 -- the series from the k-th on, under their names
 abbrev pub facts_from : List ℕ → List (Option Seg) → ℕ → List (List ℕ) → List Fact
 facts_from lengths roots k [] = []
-facts_from lengths roots k (name ∷ names) = fact_of {R = ℕ} (root_head lengths roots k name) ∷ facts_from lengths roots (k + 1) names
+facts_from lengths roots k (name ∷ names) =
+    fact_of {R = ℕ} (root_head lengths roots k name) ∷ facts_from lengths roots (k + 1) names
 
 abbrev pub node_facts : List (List ℕ) → List ℕ → List (Option Seg) → List Fact
 node_facts names lengths roots = facts_from lengths roots 0 names
@@ -45,12 +46,14 @@ node_facts names lengths roots = facts_from lengths roots 0 names
 abbrev pub heads_from : {R : Type 0} → QueryTerm → List ℕ → List (Option Seg) → ℕ → List (List ℕ) → List (Track R)
 heads_from q lengths roots k [] = []
 heads_from q lengths roots k (name ∷ names) =
-    if list_any (same_name name) (query_names q) then root_head lengths roots k name ∷ heads_from q lengths roots (k + 1) names
+    if list_any (same_name name) (query_names q)
+    then root_head lengths roots k name ∷ heads_from q lengths roots (k + 1) names
     else heads_from q lengths roots (k + 1) names
 
 -- the root of each series that is named, and has readings, is known
 abbrev pub AreRootsKnown : QueryTerm → List (List ℕ) → List ℕ → List (Option Seg) → Type 0
-AreRootsKnown q names lengths roots = (k : ℕ) → k < length names → list_any (same_name (get_or names k [])) (query_names q) ≡ true
+AreRootsKnown q names lengths roots = (k : ℕ) → k < length names
+    → list_any (same_name (get_or names k [])) (query_names q) ≡ true
     → 0 < slice_index lengths k → (g : Seg) × (known_root roots k ≡ Some g)
 
 -- no two names are the same

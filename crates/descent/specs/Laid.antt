@@ -20,7 +20,8 @@ present [] = []
 present (None ∷ xs) = present xs
 present (Some r ∷ xs) = r ∷ present xs
 
--- from a block on, each row stands at its first block and its other blocks are empty; the first `left` blocks belong to a row before
+-- from a block on, each row stands at its first block and its other blocks are empty; the first `left` blocks belong
+-- to a row before
 abbrev pub IsLaid : {I : Type 0} → ℕ → ℕ → List (Option (Row I)) → Type 0
 IsLaid at zero [] = Unit {0}
 IsLaid at (suc left) [] = ⊥
@@ -34,7 +35,13 @@ abbrev pub held : {I : Type 0} → Row I → Held I
 held r = record { id = r.id; row = record { seg = r.seg; readings = option_map (take r.seg.len) r.readings } }
 
 abbrev pub view_of : {I : Type 0} → Inside I → Track (Held I)
-view_of t = record { series = t.series; name = t.name; len = t.len; greatest = t.greatest; rows = map held (present t.places.items) }
+view_of t = record {
+  series = t.series;
+  name = t.name;
+  len = t.len;
+  greatest = t.greatest;
+  rows = map held (present t.places.items);
+}
 
 pub record IsTable {I : Type 0} (t : Inside I) : Type 0 where
   pub laid : IsLaid 0 0 t.places.items
@@ -50,7 +57,9 @@ replaced start new (h ∷ hs) = if is_closed_at start h then new ++ hs else h �
 abbrev pub restored : {I : Type 0} → Held I → List (Held I) → List (Held I)
 restored old [] = []
 restored old (h ∷ hs) =
-    if h.row.seg.start == old.row.seg.start then old ∷ drop (if h.row.seg.len == old.row.seg.len then 0 else 1) hs else h ∷ restored old hs
+    if h.row.seg.start == old.row.seg.start
+    then old ∷ drop (if h.row.seg.len == old.row.seg.len then 0 else 1) hs
+    else h ∷ restored old hs
 
 -- the one row from a position
 pub record IsRowFrom {I : Type 0} (rows : List (Held I)) (start : ℕ) (r : Row I) : Type 0 where
@@ -121,4 +130,13 @@ IsRootOf len (Some r) = IsWholeRoot len r
 abbrev pub root_table : {I : Type 0} → ℕ → List ℕ → ℕ → Option (I × Seg) → Track (Held I)
 root_table series name len None = record { series = series; name = name; len = len; greatest = 0; rows = [] }
 root_table series name len (Some r) =
-    record { series = series; name = name; len = len; greatest = r.1.d; rows = record { id = r.0; row = record { seg = r.1; readings = None } } ∷ [] }
+    record {
+      series = series;
+      name = name;
+      len = len;
+      greatest = r.1.d;
+      rows = record {
+        id = r.0;
+        row = record { seg = r.1; readings = None };
+      } ∷ [];
+    }

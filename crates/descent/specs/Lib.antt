@@ -14,3 +14,5 @@ pub mod Known
 pub mod Sound
 pub mod Frames
 pub mod Charging
+pub mod Spent
+pub mod Below

@@ -9,7 +9,8 @@ pub record Row : Type 0 where
   pub seg : Seg
   pub readings : Option (List ℤ)
 
--- what a cut has of one series: the number in the store, the name, how many readings there are and the greatest absolute
+-- what a cut has of one series: the number in the store, the name, how many readings there are and the greatest
+-- absolute
 -- one, and the rows in order
 pub record Track (R : Type 0) : Type 0 where
   pub series : ℕ
@@ -24,7 +25,13 @@ Cut = List (Track Row)
 
 -- a track with other rows
 abbrev pub with_rows : {R S : Type 0} → (R → S) → Track R → Track S
-with_rows f track = record { series = track.series; name = track.name; len = track.len; greatest = track.greatest; rows = map f track.rows }
+with_rows f track = record {
+  series = track.series;
+  name = track.name;
+  len = track.len;
+  greatest = track.greatest;
+  rows = map f track.rows;
+}
 
 -- exact segments of single readings, from a position on
 abbrev pub units : ℕ → List ℤ → List Seg

@@ -19,7 +19,8 @@ pub record AreSmall (d n : ℕ) (xs : List ℤ) : Type 0 where
   pub long : length xs ≡ n
   pub small : (i : ℕ) → unsigned_abs (reading xs i) ≤ d
 
--- a row of a series whose greatest reading is d: its segment is sane, and its readings, where it is opened, are no greater
+-- a row of a series whose greatest reading is d: its segment is sane, and its readings, where it is opened, are no
+-- greater
 pub record IsSoundRow (d : ℕ) (row : Row) : Type 0 where
   pub some : 0 < row.seg.len
   pub sane : IsSane row.seg d

@@ -6,6 +6,7 @@ use Rattle.semantics.specs.Readings.{from_zero, positions_in}
 use Rattle.semantics.specs.Term.{QueryTerm, Range}
 use Rattle.semantics.specs.Value.{domain_of, range_or}
 use Rattle.interval.specs.Interval.{Interval}
+use Rattle.segment.specs.declared.segments.Seg.{Seg}
 use Rattle.bounds.specs.Cut.{segs_of, charge_by, greatest_weight}
 use Rattle.error_prop.specs.Queries.{interval_over}
 use Rattle.error_prop.specs.Places.{end_of_name}
@@ -39,7 +40,10 @@ abbrev pub IsWithin : ℕ → Option Interval → Type 0
 IsWithin budget None = ⊥
 IsWithin budget (Some iv) = width_of iv ≤ budget
 
+-- the greatest weight with which an occurrence of a sum reads a segment
+abbrev pub weight_for : Cut → SumTerm → ℕ → ℤ → Seg → ℕ
+weight_for cut s = greatest_weight (segs_of (entries cut)) s.series (first_of cut s) (count_of cut s)
+
 -- what the segments of a row of a name are charged for a sum
 abbrev pub charge_of : Cut → SumTerm → List ℕ → Row → ℕ
-charge_of cut s name row =
-    sum_by (charge_by (greatest_weight (segs_of (entries cut)) s.series (first_of cut s) (count_of cut s)) s.series (first_of cut s) name) (segs_of_row row)
+charge_of cut s name row = sum_by (charge_by (weight_for cut s) s.series (first_of cut s) name) (segs_of_row row)

@@ -10,7 +10,12 @@ use Rattle.descent.specs.Descents.{Nodes, cut_of, IsLast}
 
 -- a row as it is told
 abbrev pub told_row : ℕ → Row → CutRow
-told_row series row = record { series = series; start = row.seg.start; len = row.seg.len; opened = is_some row.readings }
+told_row series row = record {
+  series = series;
+  start = row.seg.start;
+  len = row.seg.len;
+  opened = is_some row.readings;
+}
 
 abbrev pub told : Cut → List CutRow
 told [] = []

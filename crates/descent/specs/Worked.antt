@@ -16,7 +16,16 @@ use Rattle.descent.specs.Descents.{Nodes, Node, closed, opened, cut_of, roots, a
 
 -- the leaf of 8 turns from a position on: it estimates 5
 abbrev pub turns_leaf : ℕ → Seg
-turns_leaf start = record { start = start; len = 16; a = pos (5 * unit); b = pos 0; c = pos 0; l = 80 * unit; d = 10; f = 5 * unit }
+turns_leaf start = record {
+  start = start;
+  len = 16;
+  a = pos (5 * unit);
+  b = pos 0;
+  c = pos 0;
+  l = 80 * unit;
+  d = 10;
+  f = 5 * unit;
+}
 
 abbrev pub left : SegTree
 left = tip (turns_leaf 0) (turns 8)
@@ -106,9 +115,11 @@ pub record ProductsAreWorked : Type 0 where
   pub product_of_sums : interval_after (mul whole whole) 0 ≡ between (pos 0) (pos 102400)
   pub square_last : interval_after square_sum 3 ≡ between (pos 0) (pos 0)
   pub mixed_half : interval_in (cut_of (mixed_after 2)) mixed_sum ≡ between (pos 0) (pos 40)
-  pub mixed_half_told : told (cut_of (mixed_after 2)) ≡ told_row 0 0 16 true ∷ told_row 0 16 16 false ∷ told_row 1 0 3 false ∷ []
+  pub mixed_half_told : told (cut_of (mixed_after 2)) ≡ told_row 0 0 16 true ∷ told_row 0 16 16 false
+      ∷ told_row 1 0 3 false ∷ []
   pub mixed_full : interval_in (cut_of (mixed_after 3)) mixed_sum ≡ between (pos 20) (pos 20)
-  pub mixed_full_told : told (cut_of (mixed_after 3)) ≡ told_row 0 0 16 true ∷ told_row 0 16 16 false ∷ told_row 1 0 3 true ∷ []
+  pub mixed_full_told : told (cut_of (mixed_after 3)) ≡ told_row 0 0 16 true ∷ told_row 0 16 16 false
+      ∷ told_row 1 0 3 true ∷ []
 
 pub record DescentsAreWorked : Type 0 where
   -- the root, its children, a leaf opened on a tie of the charges, both leaves opened

@@ -74,7 +74,8 @@ fn weight(line: &SumLine) -> u128
 /// The place of the first of the lines that weigh most, or none where none weighs anything.
 pub(crate) fn heaviest_line(lines: &[SumLine]) -> Option<usize>
     requires { All IsLight lines.now }
-    ensures { MatchOption result ((j : ℕ) → weight_in lines.now j ≡ 0) (IsFirst (weight_in lines.now) (length lines.now)) }
+    ensures { MatchOption result ((j : ℕ) → weight_in lines.now j ≡ 0)
+        (IsFirst (weight_in lines.now) (length lines.now)) }
 {
     let mut most = 0u128;
     let mut at = 0;

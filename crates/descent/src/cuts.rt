@@ -20,6 +20,7 @@ ghost use Rattle.descent.specs.Descents.{Node, cut_of, expanded, expanded_row, r
 ghost use Rattle.descent.specs.Held.{Held, heads, row_in, shown, IsTrackOf, AreTracksOf, IsNodeOf, AreNodesOf, IsClosedAt, steps_in, steps_left};
 ghost use Rattle.descent.specs.Known.{facts_in};
 ghost use Rattle.descent.specs.Laid.{held, restored, CanGoBack};
+ghost use Rattle.descent.specs.Spent.{opened_among, opened_in, rows_in, Spends};
 ghost use Rattle.descent.specs.Told.{told};
 ghost use Rattle.descent.specs.Stepped.{IsClosedFrom, StepsTrack};
 
@@ -83,8 +84,10 @@ fn expand_row<N: Nodes>(
 ) -> Result<Row<N::Id>, NodeErr>
     requires at { IsClosedFrom table.old start }
     requires of { IsTrackOf (N.lengths nodes.old) (N.roots nodes.old) (N.stands nodes.old source.old) table.old }
-    ensures step { OnOk result ((forest : Forest) → N.means nodes.old source.old forest → StepsTrack forest start table.old table.new) }
-    ensures of { OnOk result (IsTrackOf (N.lengths nodes.new) (N.roots nodes.new) (N.stands nodes.new source.new) table.new) }
+    ensures step { OnOk result ((forest : Forest) → N.means nodes.old source.old forest
+        → StepsTrack forest start table.old table.new) }
+    ensures of { OnOk result (IsTrackOf (N.lengths nodes.new) (N.roots nodes.new)
+        (N.stands nodes.new source.new) table.new) }
     ensures less { OnOk result (steps_in table.new.rows < steps_in table.old.rows) }
     ensures same { table.new ≡ record table.old { rows = table.new.rows } }
     ensures sound { IsSoundTrack (with_rows row_in table.old) }
@@ -93,6 +96,8 @@ fn expand_row<N: Nodes>(
     ensures err { OnErr result (table.new ≡ table.old) }
     ensures failed { result ≡ Err Failed → Rose (N.faults source.old) (N.faults source.new) }
     ensures bad { result ≡ Err Bad → (forest : Forest) → N.means nodes.old source.old forest → ⊥ }
+    ensures spent { OnOk result (Spends (length table.old.rows) (opened_among table.old.rows)
+        (length table.new.rows) (opened_among table.new.rows) (N.handed source.old) (N.handed source.new)) }
     ensures handed { HandsOut 112 (N.handed source.old) (N.handed source.new) }
     ensures means { (forest : Forest) → N.means nodes.old source.old forest ↔ N.means nodes.new source.new forest }
     ensures later { N.faults source.old ≤ N.faults source.new }
@@ -123,8 +128,10 @@ fn expand_row<N: Nodes>(
 
 /// The place of the rows of a series.
 fn place_of<I: Copy>(tables: &[Table<I>], series: u32) -> Option<usize>
-    ensures some { IfSome result (λ k. (k < length tables.now) × ((d : Track (Held I)) → (get_or tables.now k d).series ≡ series)) }
-    ensures none { result ≡ None → (k : ℕ) (d : Track (Held I)) → k < length tables.now → (get_or tables.now k d).series ≡ series → ⊥ }
+    ensures some { IfSome result (λ k. (k < length tables.now) × ((d : Track (Held I))
+        → (get_or tables.now k d).series ≡ series)) }
+    ensures none { result ≡ None → (k : ℕ) (d : Track (Held I)) → k < length tables.now
+        → (get_or tables.now k d).series ≡ series → ⊥ }
 {
     tables.iter().position(|table| table.series() == series)
 }
@@ -136,7 +143,8 @@ impl<I: Copy> Cut<I> {
         requires plain { IsPlain (query_term_of q.now) }
         requires limits { IsWithinLimits (query_term_of q.now) }
         requires admitted { IsAdmitted (facts_in self.old.tracks) (query_term_of q.now) }
-        ensures out { IfOk result (IsCombined (query_term_of q.now) (sums_over (entries (shown self.old.tracks)) (query_term_of q.now))) }
+        ensures out { IfOk result (IsCombined (query_term_of q.now) (sums_over (entries (shown self.old.tracks))
+            (query_term_of q.now))) }
         ensures same { self.new ≡ self.old }
     {
         let frame = frame_of(self.alloc, self.tables.as_slice())?;
@@ -173,10 +181,13 @@ impl<I: Copy> Cut<I> {
         at: Pick,
     ) -> Result<(), NodeErr>
         requires at { IsClosedAt self.old.tracks at }
-        requires of { AreTracksOf (N.lengths nodes.old) (N.roots nodes.old) (N.stands nodes.old source.old) self.old.tracks }
-        ensures step { OnOk result ((forest : Forest) (ns : tree.Nodes) → N.means nodes.old source.old forest → AreNodesOf forest ns
+        requires of { AreTracksOf (N.lengths nodes.old) (N.roots nodes.old)
+            (N.stands nodes.old source.old) self.old.tracks }
+        ensures step { OnOk result ((forest : Forest) (ns : tree.Nodes) → N.means nodes.old source.old forest
+            → AreNodesOf forest ns
             → shown self.old.tracks ≡ cut_of ns → shown self.new.tracks ≡ cut_of (expanded at ns)) }
-        ensures of { OnOk result (AreTracksOf (N.lengths nodes.new) (N.roots nodes.new) (N.stands nodes.new source.new) self.new.tracks) }
+        ensures of { OnOk result (AreTracksOf (N.lengths nodes.new) (N.roots nodes.new)
+            (N.stands nodes.new source.new) self.new.tracks) }
         ensures query { self.new.query ≡ self.old.query }
         ensures heads { heads self.new.tracks ≡ heads self.old.tracks }
         ensures before { OnOk result (self.new.before ≡ Some self.old.tracks) }
@@ -184,6 +195,8 @@ impl<I: Copy> Cut<I> {
         ensures err { OnErr result (self.new ≡ self.old) }
         ensures failed { result ≡ Err Failed → Rose (N.faults source.old) (N.faults source.new) }
         ensures bad { result ≡ Err Bad → (forest : Forest) → N.means nodes.old source.old forest → ⊥ }
+        ensures spent { OnOk result (Spends (rows_in self.old.tracks) (opened_in self.old.tracks)
+            (rows_in self.new.tracks) (opened_in self.new.tracks) (N.handed source.old) (N.handed source.new)) }
         ensures handed { HandsOut 112 (N.handed source.old) (N.handed source.new) }
         ensures means { (forest : Forest) → N.means nodes.old source.old forest ↔ N.means nodes.new source.new forest }
         ensures later { N.faults source.old ≤ N.faults source.new }

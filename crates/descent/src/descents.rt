@@ -13,6 +13,7 @@ ghost use Rattle.descent.specs.declared.descents.DescentErr.TheVariants.{Failed,
 ghost use Rattle.descent.specs.Descents as tree;
 ghost use Rattle.descent.specs.Held.{shown};
 ghost use Rattle.descent.specs.Known.{node_facts, AreRootsKnown, AreApart};
+ghost use Rattle.descent.specs.Spent.{roots_in, HasSpent};
 ghost use Rattle.descent.specs.Told.{told, Tells};
 
 use crate::cuts::Cut;
@@ -115,9 +116,12 @@ pub fn descend<N: Nodes>(
     requires known { AreRootsKnown (query_term_of q.now) names.now (N.lengths nodes.old) (N.roots nodes.old) }
     requires plain { IsPlain (query_term_of q.now) }
     requires limits { IsWithinLimits (query_term_of q.now) }
-    requires admitted { IsAdmitted (node_facts names.now (N.lengths nodes.old) (N.roots nodes.old)) (query_term_of q.now) }
+    requires admitted { IsAdmitted (node_facts names.now (N.lengths nodes.old) (N.roots nodes.old))
+        (query_term_of q.now) }
     ensures last { IfOk result (λ a. (forest : Forest) → N.means nodes.old source.old forest
         → Tells (query_term_of q.now) (tree.roots (query_term_of q.now) forest names.now) budget a) }
+    ensures handed { IfOk result (λ a. HasSpent (roots_in (query_term_of q.now) (N.lengths nodes.old) 0 names.now)
+        (length a.cut) a.opened (N.handed source.old) (N.handed source.new)) }
     ensures failed { result ≡ Err Failed → Rose (N.faults source.old) (N.faults source.new) }
     ensures bad { result ≡ Err Bad → (forest : Forest) → N.means nodes.old source.old forest → ⊥ }
     ensures means { (forest : Forest) → N.means nodes.old source.old forest ↔ N.means nodes.new source.new forest }

@@ -2,7 +2,8 @@
 
 use std::marker::Model;
 
-/// A row of a cut: its series by the place in the store, its first position and how many it has, and whether it is opened.
+/// A row of a cut: its series by the place in the store, its first position and how many it has, and whether it is
+/// opened.
 #[derive(Clone, Copy, Debug, Drop, PartialEq, Eq)]
 pub struct CutRow {
     pub series: u32,

@@ -137,7 +137,8 @@ fn weigh_row<I: Copy>(series: u32, row: &Row<I>, charges: &[u128], from: Weighed
     requires sound { (d : ℕ) × IsSoundRow d (row_held (held row.now)) }
     requires enough { from.at + length (segs_of_row (row_held (held row.now))) ≤ length charges.now }
     ensures place { result.at ≡ from.at + length (segs_of_row (row_held (held row.now))) }
-    ensures best { result.best ≡ heaviest_on charge from.best (charged_from series charges.now from.at (row_held (held row.now) ∷ [])) }
+    ensures best { result.best ≡ heaviest_on charge from.best (charged_from series charges.now from.at (row_held
+        (held row.now) ∷ [])) }
 {
     if row.readings.is_some() {
         return Weighed {
@@ -231,7 +232,10 @@ impl<I: Copy> Table<I> {
         requires left_sane { IsSane left.seg self.old.greatest }
         requires right_closed { right.readings ≡ None }
         requires right_sane { IsSane right.seg self.old.greatest }
-        ensures { self.new ≡ record self.old { rows = replaced left.seg.start (held left ∷ held right ∷ []) self.old.rows } }
+        ensures { self.new ≡ record self.old {
+          rows = replaced left.seg.start (held left ∷ held right
+              ∷ []) self.old.rows;
+        } }
     {
         let first = (left.seg.start / 16) as usize;
         let second = first + (left.seg.len / 16) as usize;
@@ -241,7 +245,10 @@ impl<I: Copy> Table<I> {
     /// A row takes back the place of what it gave way to.
     pub(crate) fn put_back(&mut self, row: Row<I>)
         requires back { CanGoBack row self.old.rows }
-        requires sound { IsSoundTrack (with_rows row_held (record self.old { rows = restored (held row) self.old.rows })) }
+        requires sound { IsSoundTrack (with_rows row_held (record self.old {
+          rows = restored
+              (held row) self.old.rows;
+        })) }
         ensures { self.new ≡ record self.old { rows = restored (held row) self.old.rows } }
     {
         let first = (row.seg.start / 16) as usize;
@@ -292,7 +299,8 @@ impl<I: Copy> Table<I> {
     pub(crate) fn weigh(&self, charges: &[u128], from: Weighed) -> Weighed
         requires enough { from.at + length (segs_of_rows (map row_held self.now.rows)) ≤ length charges.now }
         ensures place { result.at ≡ from.at + length (segs_of_rows (map row_held self.now.rows)) }
-        ensures best { result.best ≡ heaviest_on charge from.best (charged_from self.now.series charges.now from.at (map row_held self.now.rows)) }
+        ensures best { result.best ≡ heaviest_on charge from.best (charged_from self.now.series charges.now from.at
+            (map row_held self.now.rows)) }
     {
         let mut weighed = from;
         for i in 0..self.places.len() {
@@ -306,7 +314,8 @@ impl<I: Copy> Table<I> {
 
     /// The rows are told, in order.
     pub(crate) fn tell(&self, rows: &mut Vec<CutRow>) -> Result<(), AllocError>
-        ensures told { OnOk result (rows.new.items ≡ rows.old.items ++ map (told_row self.now.series) (map row_held self.now.rows)) }
+        ensures told { OnOk result (rows.new.items ≡ rows.old.items ++ map (told_row self.now.series)
+            (map row_held self.now.rows)) }
         ensures few { OnOk result (length rows.new.items ≤ length rows.old.items + 2 ^ 16) }
     {
         for i in 0..self.places.len() {

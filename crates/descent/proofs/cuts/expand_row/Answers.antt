@@ -1,4 +1,4 @@
-use Rattle.std.proofs.Common.{◌≡◌, ◌<◌, ◌≤◌, ◌+◌, ◌-◌, ◌*◌, ◌^◌, refl, sym, ap, subst, ◌∙◌, List, [], ◌∷◌, None, Some, ℕ, arith, rules, length, pow_pos, take}
+use Rattle.std.proofs.Common.{◌≡◌, ◌<◌, ◌≤◌, ◌+◌, ◌-◌, ◌*◌, ◌^◌, refl, sym, ap, subst, ◌∙◌, List, [], ◌∷◌, None, Some, inl, inr, ℕ, arith, rules, length, pow_pos, take}
 use Rattle.std.specs.List.{All}
 use Rattle.std.proofs.lemmas.List.Elements.{All-nil, All-cons}
 use Rattle.segment.specs.declared.segments.Seg.{Seg}
@@ -8,7 +8,9 @@ use Rattle.descent.specs.Rows.{Track}
 use Rattle.descent.specs.Held.{Held, StandsFor, place_of, steps_in, IsTrackOf}
 use Rattle.descent.specs.Laid.{held, replaced, restored, CanGoBack}
 use Rattle.descent.specs.Stepped.{StepsTrack}
-use Rattle.descent.proofs.Backs.{opens-back, splits-back}
+use Rattle.descent.specs.Spent.{opened_among}
+use Rattle.descent.proofs.SpentLaws.{counts-replaced}
+use Rattle.descent.proofs.Backs.{closed-there, opens-back, splits-back}
 use Rattle.descent.proofs.SoundSteps.{some-len, are-small}
 use Rattle.descent.proofs.Steps.{the-row, All-has, track-of, open-less, split-less, open-step, split-step, hands-out, place-is}
 use Rattle.descent.proofs.cuts.expand_row.Goals as goal
@@ -328,3 +330,55 @@ split-requires-clause-right_sane g c =
     let kids = c.in_ok-children in
     let rs : c.closed-right.result.seg ≡ kids.children.right_seg = ap (λ k. k.seg) c.closed-right.ensures in
     rw (rs, root.2) (kids.ensures.right_sane p root.0 st root.1)
+
+pub returns-clause-spent : goal.returns-clause-spent
+returns-clause-spent g c =
+    let track = c.args.table.now in
+    let row = c.in-Some.row in
+    let is = the-row track c.args.start row c.requires.at c.in-Some.ensures.some in
+    let stands = g.N.Nodes.stands c.args.nodes.now c.args.source.now in
+    let p = place_of track.series (held row).row in
+    let st = All-has (StandsFor stands track.series) track.rows (held row) c.requires.of.stand is.there in
+    let s = split_exists row.seg.len c.if-row-le16.false in
+    let kids = c.in_ok-children in
+    let l = c.closed-left.result in
+    let r = c.closed-right.result in
+    let ls : l.seg ≡ kids.children.left_seg = ap (λ k. k.seg) c.closed-left.ensures in
+    let rs : r.seg ≡ kids.children.right_seg = ap (λ k. k.seg) c.closed-right.ensures in
+    let half : (level : ℕ) × (s.0 ≡ 16 * 2 ^ level) = s.1.power in
+    let some : 0 < 2 ^ half.0 = pow_pos half.0 in
+    let starts : l.seg.start ≡ row.seg.start = ap (λ (g : Seg). g.start) ls ∙ kids.ensures.left_starts p s.0 st s.1 in
+    let full : l.seg.len ≡ 16 * 2 ^ half.0 = ap (λ (g : Seg). g.len) ls ∙ kids.ensures.left_spans p s.0 st s.1 ∙ half.1 in
+    let next : r.seg.start ≡ row.seg.start + s.0 = ap (λ (g : Seg). g.start) rs ∙ kids.ensures.right_starts p s.0 st s.1 in
+    let span : r.seg.len ≡ row.seg.len - s.0 = ap (λ (g : Seg). g.len) rs ∙ kids.ensures.right_spans p s.0 st s.1 in
+    let below = s.1.below in
+    let e = half.1 in
+    let lr : (held l).row.readings ≡ None = rw (ap (λ k. k.readings) c.closed-left.ensures) refl in
+    let rr : (held r).row.readings ≡ None = rw (ap (λ k. k.readings) c.closed-right.ensures) refl in
+    let at : l.seg.start ≡ c.args.start = starts ∙ is.starts in
+    let n = counts-replaced c.args.start (held l ∷ held r ∷ []) track.rows (held row) is.there (closed-there c.args.start row is.starts is.closed) in
+    let lr : (held l).row.readings ≡ None = rw (ap (λ k. k.readings) c.closed-left.ensures) refl in
+    let rr : (held r).row.readings ≡ None = rw (ap (λ k. k.readings) c.closed-right.ensures) refl in
+    let none : opened_among (held l ∷ held r ∷ []) ≡ 0 = rw (lr, rr) (omega arith) in
+    let rows = n.rows in
+    let opened = n.opened in
+    let same : c.split.new.self.rows ≡ replaced c.args.start (held l ∷ held r ∷ []) track.rows = ap (λ (t : Track (Held g.row.N-Id.Denot)). t.rows) (c.split.ensures ∙ ap (λ k. record track { rows = replaced k (held l ∷ held r ∷ []) track.rows }) at) in
+    let a = ap length same in
+    let b = ap opened_among same in
+    inl (omega arith, omega arith, c.children.ensures.handed)
+
+pub returns-then-row-le16-clause-spent : goal.returns-then-row-le16-clause-spent
+returns-then-row-le16-clause-spent g c =
+    let track = c.args.table.now in
+    let row = c.in-Some.row in
+    let is = the-row track c.args.start row c.requires.at c.in-Some.ensures.some in
+    let stands = g.N.Nodes.stands c.args.nodes.now c.args.source.now in
+    let s = All-has (StandsFor stands track.series) track.rows (held row) c.requires.of.stand is.there in
+    let new : Held g.row.N-Id.Denot = held (record row { readings = Some c.readings.new.into }) in
+    let n = counts-replaced c.args.start (new ∷ []) track.rows (held row) is.there (closed-there c.args.start row is.starts is.closed) in
+    let rows = n.rows in
+    let opened = n.opened in
+    let same : c.open.new.self.rows ≡ replaced c.args.start (new ∷ []) track.rows = ap (λ (t : Track (Held g.row.N-Id.Denot)). t.rows) (c.open.ensures ∙ ap (λ k. record track { rows = replaced k (new ∷ []) track.rows }) is.starts) in
+    let a = ap length same in
+    let b = ap opened_among same in
+    inr (omega arith, omega arith, hands-out (4 * row.seg.len) 64 (g.N.Nodes.handed c.args.source.now) (g.N.Nodes.handed c.readings.new.source) (let few = c.if-row-le16.true in omega arith) (c.readings.ensures.handed (place_of track.series (held row).row) s))

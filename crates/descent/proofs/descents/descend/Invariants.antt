@@ -6,6 +6,7 @@ use Rattle.segment.specs.Nodes.{Forest, Place, KeepsRoots}
 use Rattle.descent.specs.Descents as tree
 use Rattle.descent.specs.Held.{AreTracksOf, steps_left}
 use Rattle.descent.specs.Known.{facts_in}
+use Rattle.descent.specs.Spent.{opened_in, roots_in, rows_in, HasSpent}
 use Rattle.descent.specs.Spelled.{spelled}
 use Rattle.descent.proofs.Reached.{Reached}
 use Rattle.descent.proofs.descents.descend.Given as goal
@@ -14,6 +15,7 @@ abbrev pub invariant-loop-cut : goal.invariant-loop-cut
 invariant-loop-cut g l = record {
   reached : Reached (query_term_of l.q) (λ forest. tree.roots (query_term_of l.q) forest l.names) (g.N.Nodes.means l.fn.nodes l.fn.source) l.budget l.cut.tracks;
   of : AreTracksOf (g.N.Nodes.lengths l.nodes) (g.N.Nodes.roots l.nodes) (g.N.Nodes.stands l.nodes l.source) l.cut.tracks;
+  spent : HasSpent (roots_in (query_term_of l.q) (g.N.Nodes.lengths l.fn.nodes) 0 l.names) (rows_in l.cut.tracks) (opened_in l.cut.tracks) (g.N.Nodes.handed l.fn.source) (g.N.Nodes.handed l.source);
   admitted : IsAdmitted (facts_in l.cut.tracks) (query_term_of l.q);
   query : l.cut.query ≡ spelled (query_term_of l.q);
   means : (forest : Forest) → g.N.Nodes.means l.fn.nodes l.fn.source forest ↔ g.N.Nodes.means l.nodes l.source forest;

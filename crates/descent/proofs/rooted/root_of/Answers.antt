@@ -1,11 +1,13 @@
-use Rattle.std.proofs.Common.{◌≡◌, Some, refl, sym, ap, subst, ◌∙◌}
+use Rattle.std.proofs.Common.{◌≡◌, length, Some, refl, sym, ap, subst, ◌∙◌}
 use Rattle.std.specs.Prelude.{slice_index}
-use Rattle.segment.specs.Nodes.{root_place, seg_at}
-use Rattle.descent.specs.Rows.{with_rows}
-use Rattle.descent.specs.Held.{row_in, head_of, IsTrackOf}
+use Rattle.segment.specs.Nodes.{known_root, root_place, seg_at}
+use Rattle.descent.specs.Rows.{Track, with_rows}
+use Rattle.descent.specs.Held.{Held, row_in, head_of, IsTrackOf}
 use Rattle.descent.specs.Known.{root_head}
 use Rattle.descent.specs.Laid.{root_table, IsRootOf}
 use Rattle.descent.proofs.RootLaws.{for_some, root-shown, root-track-of, root-head-of, whole-root}
+use Rattle.descent.specs.Spent.{opened_among}
+use Rattle.descent.proofs.SpentLaws.{known-handed, root-closed, root-rows-count}
 use Rattle.descent.proofs.rooted.root_of.Goals as goal
 
 pub returns-clause-root : goal.returns-clause-root
@@ -43,3 +45,26 @@ of_root-requires-clause-whole g c =
     let e = c.in_ok-root.ensures in
     let n = slice_index (g.N.Nodes.lengths c.args.nodes.now) c.args.series in
     subst (λ k. IsRootOf k c.in_ok-root.root) (sym c.readings_len-len.ensures.value) (whole-root n c.in_ok-root.root e.none e.starts e.spans e.sane)
+
+pub returns-clause-rows : goal.returns-clause-rows
+returns-clause-rows g c =
+    let n = slice_index (g.N.Nodes.lengths c.args.nodes.now) c.args.series in
+    let o = c.in_ok-root.root in
+    let is : c.in_ok-table.table ≡ root_table c.args.series c.args.name n o = c.in_ok-table.ensures ∙ ap (λ k. root_table c.args.series c.args.name k o) c.readings_len-len.ensures.value in
+    ap (λ (t : Track (Held g.row.N-Id.Denot)). length t.rows) is ∙ root-rows-count c.args.series c.args.name n o c.in_ok-root.ensures.none
+
+pub returns-clause-closed : goal.returns-clause-closed
+returns-clause-closed g c =
+    let n = slice_index (g.N.Nodes.lengths c.args.nodes.now) c.args.series in
+    let o = c.in_ok-root.root in
+    let is : c.in_ok-table.table ≡ root_table c.args.series c.args.name n o = c.in_ok-table.ensures ∙ ap (λ k. root_table c.args.series c.args.name k o) c.readings_len-len.ensures.value in
+    ap (λ (t : Track (Held g.row.N-Id.Denot)). opened_among t.rows) is ∙ root-closed c.args.series c.args.name n o
+
+pub returns-clause-handed : goal.returns-clause-handed
+returns-clause-handed g c = known-handed (slice_index (g.N.Nodes.lengths c.args.nodes.now) c.args.series) (known_root (g.N.Nodes.roots c.args.nodes.now) c.args.series) (g.N.Nodes.handed c.args.source.now) (g.N.Nodes.handed c.root.new.source) c.requires.known c.root.ensures.handed_known c.root.ensures.handed_empty
+
+pub returns-in_err-root-clause-handed : goal.returns-in_err-root-clause-handed
+returns-in_err-root-clause-handed g c = known-handed (slice_index (g.N.Nodes.lengths c.args.nodes.now) c.args.series) (known_root (g.N.Nodes.roots c.args.nodes.now) c.args.series) (g.N.Nodes.handed c.args.source.now) (g.N.Nodes.handed c.root.new.source) c.requires.known c.root.ensures.handed_known c.root.ensures.handed_empty
+
+pub returns-in_err-table-clause-handed : goal.returns-in_err-table-clause-handed
+returns-in_err-table-clause-handed g c = known-handed (slice_index (g.N.Nodes.lengths c.args.nodes.now) c.args.series) (known_root (g.N.Nodes.roots c.args.nodes.now) c.args.series) (g.N.Nodes.handed c.args.source.now) (g.N.Nodes.handed c.root.new.source) c.requires.known c.root.ensures.handed_known c.root.ensures.handed_empty

@@ -6,6 +6,8 @@ use Rattle.descent.specs.Known.{AreApart}
 use Rattle.descent.specs.Sound.{IsSoundTrack}
 use Rattle.descent.specs.Held.{row_in, head_of, heads, CutView, Held, IsClosedAt, IsTrackOf, AreTracksOf, shown, steps_in, steps_left}
 use Rattle.descent.specs.Laid.{held, restored}
+use Rattle.descent.specs.Spent.{opened_among, opened_in, rows_in, Spends}
+use Rattle.descent.proofs.SpentLaws.{spends-set}
 use Rattle.descent.specs.Stepped.{IsClosedFrom}
 use Rattle.descent.proofs.Steps.{track-later}
 use Rattle.descent.proofs.Tracks.{has-at, closed-from, names-set, rising-set, heads-set, steps_left-set, expanded-at}
@@ -99,3 +101,16 @@ returns-clause-before g c =
     let same : new ≡ record (get_or xs k t) { rows = new.rows } = c.expand_row.ensures.same ∙ ap (λ (q : Track (Held g.row.I.Denot)). let u : Track (Held g.row.I.Denot) = record q { rows = new.rows } in u) v in
     let back : restored (held c.in_ok-row.row) new.rows ≡ (get_or xs k t).rows = c.in_ok-row.ensures.restored ∙ ap (λ (q : Track (Held g.row.I.Denot)). q.rows) v in
     ap Some (restored-at xs k (held c.in_ok-row.row) new t lt same back ∙ ap (λ (w : CutView g.row.I.Denot). w.tracks) c.self.view_is)
+
+pub returns-clause-spent : goal.returns-clause-spent
+returns-clause-spent g c =
+    let xs = c.self.inside.tables.items in
+    let t = c.index_mut.result.now in
+    let k = c.in-Some.k in
+    let new = c.expand_row.new.table in
+    let lt : k < length xs = rw c.deref.ensures.value at c.in-Some.ensures.some.0 in
+    let before = g.N.Nodes.handed c.args.source.now in
+    let now = g.N.Nodes.handed c.expand_row.new.source in
+    let own = subst (λ (u : Track (Held g.row.I.Denot)). Spends (length u.rows) (opened_among u.rows) (length new.rows) (opened_among new.rows) before now) c.index_mut.ensures.value c.in_ok-row.ensures.spent in
+    subst (λ (v : List (Track (Held g.row.I.Denot))). Spends (rows_in v) (opened_in v) (rows_in (set xs k new)) (opened_in (set xs k new)) before now)
+    (ap (λ (w : CutView g.row.I.Denot). w.tracks) c.self.view_is) (spends-set xs k new t before now lt own)

@@ -13,7 +13,7 @@ const TWENTY: &[u8] = b"v\n0\n10\n0\n10\n0\n10\n0\n10\n0\n10\n0\n10\n0\n10\n0\n1
 const TWELVE: &[u8] = b"v\n0\n10\n0\n10\n0\n10\n0\n10\n0\n10\n0\n10\n";
 
 // A shelf with these files.
-fn shelf_with(
+pub(crate) fn shelf_with(
     alloc: Global,
     files: &[(&str, &[u8])],
     failing_reads: &[u64],
@@ -35,7 +35,7 @@ fn shelf_with(
 }
 
 // Runs each line over the shelf, and compares what it writes and the number of its status.
-fn says(
+pub(crate) fn says(
     rt: &impl Abort,
     alloc: Global,
     shelf: &mut MemShelf,

@@ -202,7 +202,11 @@ fn queries(rt: HostRuntime) -> Result<(), Fail> {
         ("query a.csv 0 sum(x", Status::BadQuery, "query at 5\n"),
         ("query s 0 sum(x", Status::BadQuery, "query at 5\n"),
         ("query s 0 1", Status::Absent, "absent s\n"),
-        ("query a.csv 0 sum(x)", Status::Usage, "usage fault\n"),
+        (
+            "query a.csv 0 sum(x)",
+            Status::BadQuery,
+            "query unknown x\n",
+        ),
         ("query a.csv -1 1", Status::Usage, "usage fault\n"),
         ("query a.csv", Status::Usage, "usage fault\n"),
     ] {

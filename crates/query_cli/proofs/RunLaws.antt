@@ -3,7 +3,7 @@ use Rattle.std.proofs.Common.{◌≡◌, ℕ, List, Option, Some, None, true, re
 use Rattle.std.specs.Prelude.{◌⊎◌, ◌++◌}
 use Rattle.std.specs.declared.alloc.Global.{Global}
 use Rattle.semantics.specs.Files.{Files, IfTold}
-use Rattle.query_cli.specs.Commands.{Answers, Command, IsUsage, is_reader, is_writer, refusal_of}
+use Rattle.query_cli.specs.Commands.{Answers, Command, is_reader, is_writer, refusal_of}
 use Rattle.query_cli.specs.Refusals.{Refusal, absent, bad_csv, bad_query, bad_store, called_for, domain, query_rank, query_unknown, range, series_fault, status_of, store_fault, too_big, usage}
 use Rattle.query_cli.specs.Run.{Accepts, Hides, IsCounted, IsDone, IsKeptOrReplayed, IsRefusal, IsRefused, IsStatus, IsText, Replies, refusal_in}
 use Rattle.query_cli.specs.Stops.{IfRefused, fault_line, fault_status}
@@ -91,7 +91,7 @@ replies_refusal old now command given (r, refused, reply) same =
       replayed = kept-files old now command same;
     }
 
-pub usage_refusal : (old : Option Files) (command : Option Command) (given : Reply) → IfRefused (stop.Refused given) (IsRefused old command) → given.status ≡ status.Usage → IsUsage command
+pub usage_refusal : (old : Option Files) (command : Option Command) (given : Reply) → IfRefused (stop.Refused given) (IsRefused old command) → given.status ≡ status.Usage → command ≡ None
 usage_refusal old command given (r, refused, reply) e = usage_only old command r refused (sym reply.status ∙ e)
 
 -- words that spell no command are refused so
@@ -147,7 +147,7 @@ fault_usage : (f : Fault) → fault_status f ≡ status.Usage → ⊥
 fault_usage fault.Reading e = cc
 fault_usage fault.Replacing e = cc
 
-pub usage_fault : (command : Option Command) (f : Fault) (given : Reply) → given.status ≡ fault_status f → given.status ≡ status.Usage → IsUsage command
+pub usage_fault : (command : Option Command) (f : Fault) (given : Reply) → given.status ≡ fault_status f → given.status ≡ status.Usage → command ≡ None
 usage_fault command f given is e = absurd (fault_usage f (sym is ∙ e))
 
 counted_at : (read replaced : Type 0) (f : Fault) → (f ≡ fault.Reading → read) → (f ≡ fault.Replacing → replaced) → IsCounted read replaced (fault_status f)

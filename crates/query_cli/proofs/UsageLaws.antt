@@ -1,9 +1,11 @@
 -- What is answered by `usage fault`.
-use Rattle.std.proofs.Common.{◌≡◌, ◌∙◌, ℤ, pos, Bool, true, false, List, ℕ, length, Option, Some, None, Result, Ok, Err}
+use Rattle.std.proofs.Common.{◌≡◌, ◌∙◌, ℤ, pos, Bool, true, false, List, ℕ, length, Option, Some, None, Result, Ok, Err, refl}
 use Rattle.std.specs.Prelude.{if◌then◌else◌}
 use Rattle.std.specs.Result.{result_err}
 use Rattle.semantics.specs.Admission as admission
 use Rattle.semantics.specs.Files.{Files}
+use Rattle.expr_parse.specs.Parsed.{parsed}
+use Rattle.expr_parse.specs.declared.error.ParseErr.{ParseErr}
 use Rattle.semantics.specs.Plain.{plain}
 use Rattle.semantics.specs.Term.{QueryTerm}
 use Rattle.series_csv.specs.Column.{column_of}
@@ -16,13 +18,14 @@ use Rattle.store_file.specs.Facts.{facts_in}
 use Rattle.store_file.specs.Grown.{growth_refusal}
 use Rattle.store_file.specs.Last.{last_in}
 use Rattle.store_file.specs.declared.decoding.StoreErr.{StoreErr}
-use Rattle.query_cli.specs.Commands.{Command, IsUsage, append, check, load, new_store, once, query, refusal_of}
+use Rattle.query_cli.specs.Asked.{admitted_in}
+use Rattle.query_cli.specs.Commands.{Command, append, check, load, new_store, once, query, refusal_of}
 use Rattle.query_cli.specs.Commands.Check.{CheckCommand, checked_by}
 use Rattle.query_cli.specs.Commands.Append.{append_by, appended_in}
 use Rattle.query_cli.specs.Commands.Column.{Bringing, Brought, ColumnCommand, brought_by}
 use Rattle.query_cli.specs.Commands.Load.{load_by, loaded_in}
-use Rattle.query_cli.specs.Commands.Once.{OnceCommand, is_range_of, range_in, summed_by}
-use Rattle.query_cli.specs.Commands.Query.{QueryCommand, admitted_in, asked_by, asked_in, query_in}
+use Rattle.query_cli.specs.Commands.Once.{OnceCommand, one_series, sum_query, summed_by, summed_in}
+use Rattle.query_cli.specs.Commands.Query.{QueryCommand, asked_by, asked_in, query_in}
 use Rattle.query_cli.specs.Reading.{File, Reading, held, missing, oversized}
 use Rattle.query_cli.specs.Refusals.{Refusal, absent, bad_csv, bad_query, bad_store, domain, query_rank, query_refusal, query_unknown, range, series_fault, status_of, store_fault, too_big, usage}
 use Rattle.query_cli.specs.Run.{IsRefused}
@@ -34,10 +37,6 @@ use Rattle.query_cli.specs.declared.status.Status.TheVariants as status
 behind : {A B : Type 0} (x : Result A Refusal) (f : A → Result B Refusal) → (x ≡ Err usage → ⊥) → ((a : A) → f a ≡ Err usage → ⊥) → and_then x f ≡ Err usage → ⊥
 behind (Ok a) f first rest h = rest a h
 behind (Err e) f first rest h = first cc
-
-only_first : {A B : Type 0} (x : Result A Refusal) (f : A → Result B Refusal) → ((a : A) → f a ≡ Err usage → ⊥) → and_then x f ≡ Err usage → x ≡ Err usage
-only_first (Ok a) f rest h = absurd (rest a h)
-only_first (Err e) f rest h = cc
 
 read : (name : List ℕ) (f : File) → bytes_of name f ≡ Err usage → ⊥
 read name (held b) h = cc
@@ -52,30 +51,31 @@ unless : {A E : Type 0} (make : E → Refusal) (a : A) (o : Option E) → ((e : 
 unless make a None isnt h = cc
 unless make a (Some e) isnt h = isnt e cc
 
-in_range : (xs : List ℤ) (t : Bool) → ◌≡◌ {A = Result (List ℤ) Refusal} (if t then Ok xs else Err (domain 1 (pos 0) (pos (length xs)))) (Err usage) → ⊥
-in_range xs true h = cc
-in_range xs false h = cc
-
 admission_isnt : (e : admission.NotAdmitted) → query_refusal e ≡ usage → ⊥
 admission_isnt (admission.unknown name) h = cc
 admission_isnt (admission.high_rank sum) h = cc
 admission_isnt (admission.outside sum lo hi) h = cc
 admission_isnt (admission.too_great node) h = cc
 
+in_admitted : (q : QueryTerm) (m : StoreValue) → admitted_in q m ≡ Err usage → ⊥
+in_admitted q m = unless {E = admission.NotAdmitted} query_refusal (record { store = m; query = q }) (admission.refusal_of (facts_in m) (plain q)) admission_isnt
+
 in_store : (q : QueryTerm) (bytes : List ℕ) → asked_in q bytes ≡ Err usage → ⊥
 in_store q bytes =
-    behind (known_store_in bytes) (λ m. admitted_in q m) (error {E = StoreErr} (λ e. store_fault) (decode_of bytes) (λ e k. cc))
-    (λ m. unless query_refusal (record { store = m; query = q }) (admission.refusal_of (facts_in m) (plain q)) admission_isnt)
+    behind (known_store_in bytes) (λ m. admitted_in q m) (error {E = StoreErr} (λ e. store_fault) (decode_of bytes) (λ e k. cc)) (in_admitted q)
 
 abbrev found_in : StoreValue → List ℤ → Result Brought Refusal
 found_in store xs = Ok (record { store = store; readings = xs })
 
 -- ---- commands
 
+in_csv : (c : OnceCommand) (bytes : List ℕ) → summed_in c bytes ≡ Err usage → ⊥
+in_csv c bytes =
+    behind (column_in bytes c.column c.scale None) (λ xs. admitted_in (sum_query c) (one_series c xs))
+    (error {E = CsvErr} bad_csv (column_of bytes c.column c.scale None) (λ e k. cc)) (λ xs. in_admitted (sum_query c) (one_series c xs))
+
 once_isnt : (reading : Reading) (c : OnceCommand) → summed_by reading c ≡ Err usage → ⊥
-once_isnt reading c =
-    behind _ _ (read c.csv (reading.csv c.csv))
-    (λ b. behind _ _ (error bad_csv _ (λ e k. cc)) (λ xs. in_range xs (is_range_of (length xs) c.from c.until)))
+once_isnt reading c = behind (csv_bytes reading c.csv) (λ bytes. summed_in c bytes) (read c.csv (reading.csv c.csv)) (in_csv c)
 
 loaded_column : (c : ColumnCommand) (text : List ℕ) (store : StoreValue) → and_then (column_in text c.column store.scale None) (λ xs. found_in store xs) ≡ Err usage → ⊥
 loaded_column c text store =
@@ -126,10 +126,10 @@ bring_isnt reading c w find =
 check_isnt : (reading : Reading) (c : CheckCommand) → checked_by reading c ≡ Err usage → ⊥
 check_isnt reading c = behind _ _ (read c.store (reading.store c.store)) (λ stored. error bad_store _ (λ e k. cc))
 
-query_first : (reading : Reading) (c : QueryCommand) → asked_by reading c ≡ Err usage → query_in c.text ≡ Err usage
-query_first reading c =
-    only_first (query_in c.text) (λ q. and_then (store_bytes reading c.store) (λ bytes. asked_in q bytes))
-    (λ q. behind (store_bytes reading c.store) (λ bytes. asked_in q bytes) (read c.store (reading.store c.store)) (λ b. in_store q b))
+query_isnt : (reading : Reading) (c : QueryCommand) → asked_by reading c ≡ Err usage → ⊥
+query_isnt reading c =
+    behind (query_in c.text) (λ q. and_then (store_bytes reading c.store) (λ bytes. asked_in q bytes)) (error {E = ParseErr} bad_query (parsed c.text) (λ e k. cc))
+    (λ q. behind (store_bytes reading c.store) (λ bytes. asked_in q bytes) (read c.store (reading.store c.store)) (in_store q))
 
 error_of : {A : Type 0} (x : Result A Refusal) (r : Refusal) → result_err x ≡ Some r → x ≡ Err r
 error_of (Ok a) r h = cc
@@ -149,16 +149,16 @@ of_status (query_unknown name) e = cc
 of_status (query_rank sum) e = cc
 of_status (range node) e = cc
 
-is_usage : (reading : Reading) (command : Option Command) → refusal_of reading command ≡ Some usage → IsUsage command
-is_usage reading None h = tt
+is_usage : (reading : Reading) (command : Option Command) → refusal_of reading command ≡ Some usage → command ≡ None
+is_usage reading None h = refl
 is_usage reading (Some (once c)) h = absurd (once_isnt reading c (error_of (summed_by reading c) usage h))
 is_usage reading (Some (new_store c)) h = cc
 is_usage reading (Some (load c)) h = absurd (bring_isnt reading c (load_by c) (load_isnt c) (error_of (brought_by reading c (load_by c)) usage h))
 is_usage reading (Some (append c)) h = absurd (bring_isnt reading c (append_by c) (append_isnt c) (error_of (brought_by reading c (append_by c)) usage h))
 is_usage reading (Some (check c)) h = absurd (check_isnt reading c (error_of (checked_by reading c) usage h))
-is_usage reading (Some (query c)) h = query_first reading c (error_of (asked_by reading c) usage h)
+is_usage reading (Some (query c)) h = absurd (query_isnt reading c (error_of (asked_by reading c) usage h))
 
-pub usage_only : (files : Option Files) (command : Option Command) (r : Refusal) → IsRefused files command r → status_of r ≡ status.Usage → IsUsage command
+pub usage_only : (files : Option Files) (command : Option Command) (r : Refusal) → IsRefused files command r → status_of r ≡ status.Usage → command ≡ None
 usage_only files command r k e =
     let is : r ≡ usage = of_status r e in
     let called : refusal_of k.reading command ≡ Some usage = k.called ∙ (λ i. Some (is i)) in

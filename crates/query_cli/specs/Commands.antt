@@ -6,7 +6,7 @@ pub mod Load
 pub mod New
 pub mod Once
 pub mod Query
-use Rattle.std.specs.Prelude.{◌≡◌, ℕ, Bool, true, false, List, [], ◌∷◌, codes, map, string_bytes, Option, Some, None, option_map, Err, if◌then◌else◌}
+use Rattle.std.specs.Prelude.{◌≡◌, ℕ, Bool, true, false, List, [], ◌∷◌, codes, map, string_bytes, Option, Some, None, option_map, if◌then◌else◌}
 use Rattle.std.specs.Result.{result_err}
 use Rattle.std.specs.declared.alloc.Global.{Global}
 use Rattle.std.specs.declared.string.String.{String}
@@ -17,7 +17,7 @@ use Rattle.query_cli.specs.Commands.Column.{ColumnCommand, ColumnAnswers, Column
 use Rattle.query_cli.specs.Commands.Load.{load_by}
 use Rattle.query_cli.specs.Commands.New.{NewCommand, files_after_new, new_line, new_of}
 use Rattle.query_cli.specs.Commands.Once.{OnceCommand, OnceAnswers, once_of, summed_by}
-use Rattle.query_cli.specs.Commands.Query.{QueryCommand, QueryAnswers, asked_by, query_in, query_of, query_reads}
+use Rattle.query_cli.specs.Commands.Query.{QueryCommand, QueryAnswers, asked_by, query_of, query_reads}
 use Rattle.query_cli.specs.Reading.{Reading, reading_in}
 use Rattle.query_cli.specs.Refusals.{Refusal, usage}
 use Rattle.query_cli.specs.Replay.{Stands, begins}
@@ -118,13 +118,3 @@ IsReplayed old (Some (load c)) now = ColumnReplays old c (load_by c) now
 IsReplayed old (Some (append c)) now = ColumnReplays old c (append_by c) now
 IsReplayed old (Some (check c)) now = ⊥
 IsReplayed old (Some (query c)) now = ⊥
-
--- a command whose answer is `usage fault`: words that spell none, and a query with a sum
-abbrev pub IsUsage : Option Command → Type 0
-IsUsage None = Unit {0}
-IsUsage (Some (once c)) = ⊥
-IsUsage (Some (new_store c)) = ⊥
-IsUsage (Some (load c)) = ⊥
-IsUsage (Some (append c)) = ⊥
-IsUsage (Some (check c)) = ⊥
-IsUsage (Some (query c)) = query_in c.text ≡ Err usage

@@ -1,13 +1,10 @@
+pub mod Asked
 pub mod Commands
-pub mod Cuts
-pub mod Descents
 pub mod Generated
 pub mod Laws
-pub mod Numbers
 pub mod Reading
 pub mod Refusals
 pub mod Replay
-pub mod Rows
 pub mod Run
 pub mod Shelf
 pub mod Statuses

@@ -1,6 +1,5 @@
 -- The steps of which commands are made: what each finds, or its refusal.
-use Rattle.std.specs.Fmt.{decimal, signed_decimal}
-use Rattle.std.specs.Prelude.{◌≡◌, ℕ, List, Option, Some, None, ℤ, pos, ◌++◌, codes, Result, Ok, Err, ◌≤◌, ◌-ℤ◌, ◌≤ℤ◌}
+use Rattle.std.specs.Prelude.{ℕ, List, Option, Some, None, ℤ, Result, Ok, Err}
 use Rattle.series_csv.specs.Column.{column_of}
 use Rattle.store_file.specs.Added.{name_refusal}
 use Rattle.store_file.specs.Decoded.{decode_of}
@@ -9,12 +8,6 @@ use Rattle.store_file.specs.Last.{last_in}
 use Rattle.store_file.specs.StoreValue.{StoreValue}
 use Rattle.query_cli.specs.Reading.{File, Reading, held, missing, oversized}
 use Rattle.query_cli.specs.Refusals.{Refusal, absent, too_big, bad_csv, bad_store, series_fault, store_fault}
-
--- `LO HI WIDTH NODES OPENED`
-abbrev pub answer_line : ℤ → ℤ → ℕ → ℕ → ℕ → List ℕ
-answer_line lo hi width nodes opened =
-    signed_decimal lo ++ codes " " ++ signed_decimal hi ++ codes " " ++ decimal width ++ codes " " ++ decimal nodes
-    ++ codes " " ++ decimal opened ++ codes "\n"
 
 -- one step behind another, whose refusal comes first
 abbrev pub and_then : {A B : Type 0} → Result A Refusal → (A → Result B Refusal) → Result B Refusal
@@ -66,16 +59,3 @@ short_in m name xs = unless_refused (series_fault name) xs (growth_refusal m nam
 -- the readings of a column behind the reading before, where there is one
 abbrev pub column_in : List ℕ → List ℕ → ℕ → Option ℤ → Result (List ℤ) Refusal
 column_in bytes column scale before = refused_as bad_csv (column_of bytes column scale before)
-
--- the line of an interval that holds a value and is no wider than a budget
-pub record IsIntervalLine (value : ℤ) (budget : ℕ) (text : List ℕ) : Type 0 where
-  pub low : ℤ
-  pub high : ℤ
-  pub width : ℕ
-  pub nodes : ℕ
-  pub opened : ℕ
-  pub line : text ≡ answer_line low high width nodes opened
-  pub above : low ≤ℤ value
-  pub below : value ≤ℤ high
-  pub wide : pos width ≡ (high -ℤ low)
-  pub within : width ≤ budget

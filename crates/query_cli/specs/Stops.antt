@@ -1,11 +1,12 @@
 -- Why a command stops before its answer.
-use Rattle.std.specs.Prelude.{◌≡◌, ◌≢◌, ℕ, List, codes, Option, Result, Err, string_bytes}
+use Rattle.std.specs.Prelude.{◌≡◌, ◌≢◌, ℕ, List, codes, Option, Some, Result, Err, string_bytes}
 use Rattle.semantics.specs.Files.{Files, IfTold}
 use Rattle.expr_parse.specs.declared.error.ParseErr.TheVariants as text
+use Rattle.semantics.specs.Admission.{NotAdmitted}
 use Rattle.series_csv.specs.declared.fault.CsvErr.TheVariants as csv
 use Rattle.store_file.specs.declared.decoding.StoreErr.TheVariants as stored
 use Rattle.query_cli.specs.Reading.{File, file_at}
-use Rattle.query_cli.specs.Refusals.{Refusal, bad_csv, bad_query, bad_store, line_of, status_of}
+use Rattle.query_cli.specs.Refusals.{Refusal, bad_csv, bad_query, bad_store, line_of, query_refusal, status_of}
 use Rattle.query_cli.specs.Steps.{bytes_of}
 use Rattle.query_cli.specs.declared.stop.Fault.{Fault}
 use Rattle.query_cli.specs.declared.stop.Fault.TheVariants as fault
@@ -54,6 +55,12 @@ IfStopped (halt.Stopped s) P = IfRefused s P
 pub record IsStepRefusal {A : Type 0} (found : Result A Refusal) (r : Refusal) : Type 0 where
   pub called : found ≡ Err r
   pub cause : HasCause r
+
+-- the refusal of a query that is not admitted
+pub record IsNotAdmitted (o : Option NotAdmitted) (r : Refusal) : Type 0 where
+  pub why : NotAdmitted
+  pub called : o ≡ Some why
+  pub refusal : r ≡ query_refusal why
 
 -- why a file of this name, of at most so many bytes, was not read
 pub record IsUnread (files : Option Files) (most : ℕ) (name : List ℕ) (r : Refusal) : Type 0 where

@@ -5,7 +5,7 @@ use Rattle.query_cli.specs.Commands.New.{NewCommand}
 use Rattle.query_cli.specs.Commands.Column.{ColumnCommand}
 use Rattle.query_cli.specs.Commands.Check.{CheckCommand}
 use Rattle.query_cli.specs.Commands.Query.{QueryCommand}
-use Rattle.query_cli.specs.Refusals.{Refusal, usage, absent, too_big, bad_csv, bad_store, series_fault, domain, bad_query, store_fault, range}
+use Rattle.query_cli.specs.Refusals.{Refusal, usage, absent, too_big, bad_csv, bad_store, series_fault, domain, bad_query, query_rank, query_unknown, store_fault, range}
 use Rattle.query_cli.specs.declared.commands.Command.{Command as CommandCode}
 use Rattle.query_cli.specs.declared.commands.Command.TheVariants as command
 use Rattle.query_cli.specs.declared.commands.once.Once.{Once}
@@ -19,8 +19,14 @@ use Rattle.query_cli.specs.declared.refusals.Refusal.{Refusal as RefusalCode}
 use Rattle.query_cli.specs.declared.refusals.Refusal.TheVariants as refusal
 
 abbrev pub once_view : Once → OnceCommand
-once_view o =
-    record { csv = o.csv.now; column = o.column.now; scale = o.scale; budget = o.budget; from = o.from; until = o.until }
+once_view o = record {
+  csv = o.csv.now;
+  column = o.column.now;
+  scale = o.scale;
+  budget = o.budget;
+  from = o.from;
+  until = o.until;
+}
 
 abbrev pub new_view : New → NewCommand
 new_view n = record { store = n.store.now; scale = n.scale; degree = n.degree }
@@ -57,5 +63,7 @@ refusal_view (refusal.BadStore e) = bad_store e
 refusal_view (refusal.SeriesFault name e) = series_fault name e
 refusal_view (refusal.Domain sum lo hi) = domain sum lo hi
 refusal_view (refusal.BadQuery e) = bad_query e
+refusal_view (refusal.QueryUnknown name) = query_unknown name
+refusal_view (refusal.QueryRank sum) = query_rank sum
 refusal_view refusal.StoreFault = store_fault
 refusal_view (refusal.Range node) = range node

@@ -21,8 +21,12 @@ pub(crate) enum Refusal<'a> {
     SeriesFault(Name, SeriesErr),
     Domain { sum: u32, lo: i64, hi: i64 },
     BadQuery(ParseErr),
+    QueryUnknown(Name),
+    /// The number of a sum.
+    QueryRank(u32),
     /// The bytes stand for no store, of which no place is told.
     StoreFault,
+    /// The number of a node.
     Range(u32),
 }
 
@@ -38,7 +42,8 @@ impl Refusal<'_> {
             Refusal::BadStore(_) => Status::BadStore,
             Refusal::SeriesFault(..) => Status::SeriesFault,
             Refusal::Domain { .. } => Status::Domain,
-            Refusal::BadQuery(_) => Status::BadQuery,
+            Refusal::BadQuery(_) | Refusal::QueryUnknown(_) | Refusal::QueryRank(_) =>
+                Status::BadQuery,
             Refusal::StoreFault => Status::BadStore,
             Refusal::Range(_) => Status::Range,
         }

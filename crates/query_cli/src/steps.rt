@@ -1,6 +1,7 @@
 //! The steps of which commands are made.
 
 pub(crate) mod answer_line;
+pub(crate) mod asked;
 pub(crate) mod column;
 pub(crate) mod files;
 pub(crate) mod store;

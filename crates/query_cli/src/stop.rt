@@ -2,11 +2,12 @@ ghost use Rattle.std.specs.Prelude.{◌≡◌, IfOk, string_bytes};
 ghost use Rattle.query_cli.specs.Stops.{IfRefused, IsReplyOf, fault_line, fault_status};
 ghost use Rattle.query_cli.specs.Views.{refusal_view};
 ghost use Rattle.query_cli.specs.declared.stop.Halt.TheVariants.{Stopped};
-ghost use Rattle.query_cli.specs.declared.stop.Stop.TheVariants.{Memory};
+ghost use Rattle.query_cli.specs.declared.stop.Stop.TheVariants.{Memory as no_memory};
 
 use crate::refusals::Refusal;
 use crate::refusals::lines::line_of_refusal;
 use crate::status::Status;
+use num_text::Memory;
 use std::alloc::{AllocError, Global};
 
 /// A status, and the text that is written with it.
@@ -54,15 +55,23 @@ pub(crate) enum Halt {
 }
 
 impl From<AllocError> for Stop {
-    ghost from_gives = { λ _ s. s ≡ Memory };
+    ghost from_gives = { λ _ s. s ≡ no_memory };
 
     fn from(_e: AllocError) -> Stop {
         Stop::Memory
     }
 }
 
+impl From<Memory> for Stop {
+    ghost from_gives = { λ _ s. s ≡ no_memory };
+
+    fn from(_e: Memory) -> Stop {
+        Stop::Memory
+    }
+}
+
 impl From<AllocError> for Halt {
-    ghost from_gives = { λ _ h. h ≡ Stopped Memory };
+    ghost from_gives = { λ _ h. h ≡ Stopped no_memory };
 
     fn from(_e: AllocError) -> Halt {
         Halt::Stopped(Stop::Memory)

@@ -2,7 +2,7 @@ ghost use Rattle.std.specs.Prelude.{◌≡◌, ◌≢◌, ◌⊎◌, ◌≤◌, 
 ghost use Rattle.std.specs.Io.KnownBytes.{Appends};
 ghost use Rattle.semantics.specs.Faults.{Rose};
 ghost use Rattle.semantics.specs.Files.{IfTold};
-ghost use Rattle.query_cli.specs.Commands.{IsUsage, command_in, files_after, is_reader, is_writer, reads_of};
+ghost use Rattle.query_cli.specs.Commands.{command_in, files_after, is_reader, is_writer, reads_of};
 ghost use Rattle.query_cli.specs.Reading.{reading_in};
 ghost use Rattle.query_cli.specs.Run.{Accepts, Grew, Hides, IsAnswer, IsCounted, IsKeptOrReplayed, IsStatus, IsText, Replies};
 ghost use Rattle.query_cli.specs.Shelf.{NoFault, RoseAtMost};
@@ -16,7 +16,7 @@ use std::alloc::{AllocError, Global};
 // What is written for the words, or want of memory.
 fn reply_to<S: Shelf>(alloc: Global, words: &[String], shelf: &mut S) -> Result<Reply, AllocError>
     ensures said { IfOk result (Replies (S.files shelf.old) (S.files shelf.new) (command_in words.now)) }
-    ensures usage { IfOk result (λ r. r.status ≡ Status.Usage → IsUsage (command_in words.now)) }
+    ensures usage { IfOk result (λ r. r.status ≡ Status.Usage → command_in words.now ≡ None) }
     ensures no_command { IfOk result (λ r. command_in words.now ≡ None → r.status ≡ Status.Usage) }
     ensures counted { IfOk result (λ r.
         IsCounted (Rose (S.read_faults shelf.old) (S.read_faults shelf.new)) (Rose (S.replace_faults shelf.old)
@@ -57,7 +57,7 @@ pub fn run<S: Shelf, O: Out>(alloc: Global, words: &[String], shelf: &mut S, out
 
     // The status is the one that words and files call for; it yields to want of memory and to faults.
     ensures exact { IfTold (S.files shelf.old) (λ m. IsStatus m (command_in words.now) result) }
-    ensures usage_only { result ≡ Status.Usage → IsUsage (command_in words.now) }
+    ensures usage_only { result ≡ Status.Usage → command_in words.now ≡ None }
     ensures no_command { command_in words.now ≡ None
         → (result ≡ Status.Usage) ⊎ (result ≡ Status.Memory) ⊎ (result ≡ Status.OutFault) }
     // Where no count of faults rose and nothing is refused, it is Ok or want of memory.

@@ -1,5 +1,5 @@
 ghost use Rattle.query_cli.specs.Words.{has_form, is_file, word, digit_up_to, digits_up_to, whole_up_to};
-ghost use Rattle.std.specs.Prelude.{◌≡◌, ◌<◌, length, map, string_bytes, ◌≤◌, ◌^◌, IfSome};
+ghost use Rattle.std.specs.Prelude.{◌≡◌, ◌<◌, unsigned_abs, length, map, string_bytes, ◌≤◌, ◌^◌, IfSome};
 
 use expr::Name;
 use num_text::read_i128;
@@ -63,7 +63,8 @@ pub(crate) fn read_digit(text: &[u8], most: u8) -> Option<u8>
 /// A number of magnitude at most so much.
 pub(crate) fn read_whole(text: &[u8], most: u64) -> Option<i64>
     requires { most ≤ 2 ^ 40 }
-    ensures { result ≡ whole_up_to most text.now }
+    ensures value { result ≡ whole_up_to most text.now }
+    ensures bound { IfSome result (λ n. unsigned_abs n ≤ most) }
 {
     let n = read_i128(text)?;
     if n.unsigned_abs() <= u128::from(most) {

@@ -1,83 +1,35 @@
 -- `query` by its steps.
-use Rattle.std.proofs.Common.{◌≡◌, ◌≢◌, ◌∙◌, ◌≤◌, ℕ, ℤ, Bool, true, false, List, Option, Some, None, Result, Ok, Err, refl, sym, ap, inl, arith}
+use Rattle.std.proofs.Common.{◌≡◌, ◌∙◌, ◌≤◌, ℕ, true, List, Option, Some, Ok, Err, refl, ap, arith}
 use Rattle.std.specs.Prelude.{if◌then◌else◌}
 use Rattle.std.specs.Result.{result_err}
-use Rattle.std.proofs.lemmas.Int.{ints}
 use Rattle.outside.specs.Parts.{RisesBy}
-use Rattle.semantics.specs.Admission as admission
 use Rattle.semantics.specs.Files.{Files, IfTold}
 use Rattle.semantics.specs.Term.{QueryTerm}
-use Rattle.store_file.specs.Facts.{facts_in}
 use Rattle.store_file.specs.StoreValue.{StoreValue}
+use Rattle.query_cli.specs.Asked.{Asked, IsAnswered, IsIntervalLine, admitted_in}
 use Rattle.query_cli.specs.Commands.{query}
-use Rattle.query_cli.specs.Commands.Query.{Asked, IsAdmittedValue, IsValueLine, QueryCommand, admitted_in, asked_by, asked_in, is_found, query_in, query_reads, value_of, readings_in}
-use Rattle.query_cli.specs.Numbers.{is_of_numbers, number_refusal, number_value}
+use Rattle.query_cli.specs.Commands.Query.{QueryCommand, asked_by, asked_in, is_found, query_in, query_reads}
 use Rattle.query_cli.specs.Reading.{File, Reading, file_at, held, missing, most_store}
-use Rattle.query_cli.specs.Refusals.{Refusal, query_refusal, range}
+use Rattle.query_cli.specs.Refusals.{Refusal}
 use Rattle.query_cli.specs.Run.{IsDone, IsRefused}
 use Rattle.query_cli.specs.Shelf.{RoseAtMost}
-use Rattle.query_cli.specs.Steps.{and_then, answer_line, bytes_of, known_store_in, unless_refused}
+use Rattle.query_cli.specs.Steps.{and_then, bytes_of, known_store_in}
 use Rattle.query_cli.specs.Stops.{IfRefused, IfStopped, IsStepRefusal, IsUnread}
 use Rattle.query_cli.specs.declared.stop.Halt.{Halt}
 use Rattle.query_cli.specs.declared.stop.Stop.{Stop}
-use Rattle.query_cli.proofs.NumberLaws.{refusal_same, value_same}
-use Rattle.query_cli.proofs.StepLaws.{came, came-read, came-refused, came-store, refused-map, rose-none, rose-once, step-refused, store-unread, kept-files, same-files}
+use Rattle.query_cli.proofs.StepLaws.{came, came-read, came-refused, came-store, kept-files, rose-once, same-files, step-refused, store-unread}
 
 -- ---- over the bytes of the store
-
-pub admitted_value : (q : QueryTerm) (v : ℤ) → is_of_numbers q ≡ true → number_refusal 1 q ≡ None → v ≡ number_value q → (m : StoreValue) → IsAdmittedValue q m v
-admitted_value q v numbers none is m =
-    let asked : Asked = record { store = m; query = q } in
-    record {
-      admitted = ap (unless_refused query_refusal asked) (refusal_same (facts_in m) q numbers ∙ none);
-      value_is = is ∙ value_same (readings_in m) q numbers;
-    }
-
-pub not_admitted : (q : QueryTerm) (node : ℕ) (r : Refusal) → is_of_numbers q ≡ true → number_refusal 1 q ≡ Some (admission.too_great node) → r ≡ range node → (m : StoreValue) → IsStepRefusal (admitted_in q m) r
-not_admitted q node r numbers found is m =
-    let asked : Asked = record { store = m; query = q } in
-    record {
-      cause = record { csv = λ e. cc; store = λ e. cc; query = λ e. cc };
-      called = ap (unless_refused query_refusal asked) (refusal_same (facts_in m) q numbers ∙ found) ∙ ap Err (sym is);
-    }
-
-value_line : (asked : Asked) (budget : ℕ) (line : List ℕ) (v : ℤ) → v ≡ value_of asked → line ≡ answer_line v v 0 0 0 → IsValueLine asked budget line
-value_line asked budget line v is e =
-    let exact : line ≡ answer_line (value_of asked) (value_of asked) 0 0 0 = e ∙ (λ i. answer_line (is i) (is i) 0 0 0) in
-    record {
-      interval = record {
-        low = value_of asked;
-        high = value_of asked;
-        width = 0;
-        nodes = 0;
-        opened = 0;
-        line = exact;
-        above = omega (arith, ints);
-        below = omega (arith, ints);
-        wide = omega (arith, ints);
-        within = omega arith;
-      };
-      exact = exact;
-    }
-
-pub answered_in : (q : QueryTerm) (bytes : List ℕ) (m : StoreValue) (budget : ℕ) (line : List ℕ) (v : ℤ) → known_store_in bytes ≡ Ok m → IsAdmittedValue q m v → line ≡ answer_line v v 0 0 0
-    → (asked : Asked) × (asked_in q bytes ≡ Ok asked) × IsValueLine asked budget line
-answered_in q bytes m budget line v known a e =
-    (record { store = m; query = q }, ap (λ r. and_then r (λ k. admitted_in q k)) known ∙ a.admitted, value_line (record { store = m; query = q }) budget line v a.value_is e)
 
 pub no_store : (q : QueryTerm) (bytes : List ℕ) (s : Stop) → IfRefused s (IsStepRefusal (known_store_in bytes)) → IfRefused s (IsStepRefusal (asked_in q bytes))
 no_store q bytes s = step-refused s (known_store_in bytes) (asked_in q bytes) (λ r k. ap (λ x. and_then x (λ m. admitted_in q m)) k)
 
-pub no_answer : (q : QueryTerm) (bytes : List ℕ) (m : StoreValue) (s : Stop) → known_store_in bytes ≡ Ok m → IfRefused s (λ r. (k : StoreValue) → IsStepRefusal (admitted_in q k) r) → IfRefused s (IsStepRefusal (asked_in q bytes))
-no_answer q bytes m s known h =
-    refused-map s (λ r. (k : StoreValue) → IsStepRefusal (admitted_in q k) r) (IsStepRefusal (asked_in q bytes))
-    (λ r k. record { called = ap (λ x. and_then x (λ n. admitted_in q n)) known ∙ (k m).called; cause = (k m).cause }) h
+pub no_answer : (q : QueryTerm) (bytes : List ℕ) (m : StoreValue) (s : Stop) → known_store_in bytes ≡ Ok m → IfRefused s (IsStepRefusal (admitted_in q m)) → IfRefused s (IsStepRefusal (asked_in q bytes))
+no_answer q bytes m s known = step-refused s (admitted_in q m) (asked_in q bytes) (λ r k. ap (λ x. and_then x (λ n. admitted_in q n)) known ∙ k)
 
-pub all_not_admitted : (q : QueryTerm) (node : ℕ) (s : Stop) → is_of_numbers q ≡ true → number_refusal 1 q ≡ Some (admission.too_great node) → IfRefused s (λ r. r ≡ range node)
-    → IfRefused s (λ r. (m : StoreValue) → IsStepRefusal (admitted_in q m) r)
-all_not_admitted q node s numbers found h =
-    refused-map s (λ r. r ≡ range node) (λ r. (m : StoreValue) → IsStepRefusal (admitted_in q m) r)
-    (λ r is. not_admitted q node r numbers found is) h
+pub answered_in : (q : QueryTerm) (bytes : List ℕ) (m : StoreValue) (budget : ℕ) (line : List ℕ) → known_store_in bytes ≡ Ok m → IsAnswered q m budget line
+    → (asked : Asked) × (asked_in q bytes ≡ Ok asked) × IsIntervalLine asked budget line
+answered_in q bytes m budget line known a = (record { store = m; query = q }, ap (λ x. and_then x (λ n. admitted_in q n)) known ∙ a.admitted, a.line)
 
 -- ---- over the files
 
@@ -106,7 +58,7 @@ query_refused c q files bytes s is told =
     came-refused files missing (held bytes) (Some (query c)) s (asked_in q bytes) (λ r k. ap result_err (over c q files bytes is told ∙ k))
 
 pub query_done : (c : QueryCommand) (q : QueryTerm) (files now : Option Files) (bytes text : List ℕ) (asked : Asked) → query_in c.text ≡ Ok q
-    → IfTold files (λ m. file_at m most_store c.store ≡ held bytes) → asked_in q bytes ≡ Ok asked → IsValueLine asked c.budget text → now ≡ files → IsDone files now (Some (query c)) text
+    → IfTold files (λ m. file_at m most_store c.store ≡ held bytes) → asked_in q bytes ≡ Ok asked → IsIntervalLine asked c.budget text → now ≡ files → IsDone files now (Some (query c)) text
 query_done c q files now bytes text asked is told found value same =
     let all : asked_by (came files missing (held bytes)) c ≡ Ok asked = over c q files bytes is told ∙ found in
     record {
@@ -114,7 +66,7 @@ query_done c q files now bytes text asked is told found value same =
         reading = came files missing (held bytes);
         read = came-read files missing (held bytes);
         accepted = ap result_err all;
-        answer = record { asked = asked; found = all; value = value };
+        answer = record { asked = asked; found = all; line = value };
       };
       files = same-files files now same;
       replayed = kept-files files now (Some (query c)) same;

@@ -87,9 +87,9 @@ pub record StepsTo (old : Files) (c : ColumnCommand) (w : Bringing) (m : StoreVa
 -- STORE stands for a history with the readings of the column behind it
 pub record GoesOn (old : Files) (c : ColumnCommand) (w : Bringing) (h : List Accepted) (now : Option Files) : Type 0
   where
-  pub readings : List ℤ
-  pub column : IsColumnOf old c.csv c.column (replay h).scale (w.before (replay h)) readings
-  pub stands : Stands old c.store (h ++ w.accepts readings ∷ []) now
+    pub readings : List ℤ
+    pub column : IsColumnOf old c.csv c.column (replay h).scale (w.before (replay h)) readings
+    pub stands : Stands old c.store (h ++ w.accepts readings ∷ []) now
 
 -- what becomes of the store for which STORE stands, and of its history
 pub record ColumnReplays (old : Files) (c : ColumnCommand) (w : Bringing) (now : Option Files) : Type 0 where

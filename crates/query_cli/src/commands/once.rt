@@ -1,29 +1,31 @@
-ghost use Rattle.query_cli.specs.Commands.Once.{IsSumLine, end_of, first_of, is_range_of, once_of, summed_in};
-ghost use Rattle.query_cli.specs.Descents.{Tells};
+ghost use Rattle.std.specs.Prelude.{◌≡◌, ◌≤◌, ◌^◌, length, map, codes, option_map, string_bytes, unsigned_abs, Some, IfOk, IfErr};
+ghost use Rattle.expr.specs.Terms.{query_term_of};
+ghost use Rattle.segment.specs.Measure.{AreReadings};
+ghost use Rattle.semantics.specs.Limits.{IsWithinLimits};
+ghost use Rattle.semantics.specs.Most.{most_readings};
+ghost use Rattle.store_file.specs.Added.{with_series};
+ghost use Rattle.store_file.specs.Stored.{store_value};
+ghost use Rattle.query_cli.specs.Commands.Once.{IsSummed, once_of, sum_query, summed_in};
 ghost use Rattle.query_cli.specs.Reading.{most_csv};
+ghost use Rattle.query_cli.specs.Replay.{empty_store};
 ghost use Rattle.query_cli.specs.Shelf.{OnlyReads, RoseAtMost};
 ghost use Rattle.query_cli.specs.Stops.{IfRefused, IfStopped, IsStepRefusal};
-ghost use Rattle.seg_tree.specs.Trees.{IsTreeOf, value_of};
-ghost use Rattle.segment.specs.Measure.{AreReadings};
-ghost use Rattle.segment.specs.Tree.{fitted_series};
-ghost use Rattle.semantics.specs.Readings.{plain_sum};
-ghost use Rattle.semantics.specs.Most.{most_readings};
-ghost use Rattle.std.specs.Prelude.{◌≡◌, ◌≤◌, length, true, ◌<◌, IfOk, map, option_map, string_bytes, ◌^◌, ◌≤ℤ◌, ◌-ℤ◌, pos, [], Some, None, Ok, Err, IfErr, List, ℤ};
 
 use crate::commands::Command;
-use crate::descent::{Answer, DescentErr, descend};
-use crate::refusals::Refusal;
-use crate::steps::answer_line::line_of;
+use crate::steps::asked::answer_over;
 use crate::steps::column::readings_of;
 use crate::steps::files::{MOST_CSV, read_file};
-use crate::stop::{Halt, Stop, refuse};
+use crate::steps::store::add;
+use crate::stop::{Halt, Stop};
 use crate::words::{
     MOST_BUDGET, MOST_POSITION, MOST_SCALE, is_file_word, read_digit, read_digits, read_whole,
     word_at,
 };
+use expr::{Bounds, Name, Query, Series};
+use num_text::Memory;
 use outside::Shelf;
-use seg_tree::{Arena, ArenaNodes, Tree, TreeErr};
 use std::alloc::{AllocError, Global};
+use store_file::Store;
 
 /// `once CSV COLUMN SCALE BUDGET L R`: the interval of the sum of a column over the positions from L up to R.
 #[derive(Drop)]
@@ -37,6 +39,8 @@ pub(crate) struct Once<'a> {
     pub(crate) from: i64,
     pub(crate) until: i64,
     ghost few_places: { scale ≤ 6 },
+    ghost near_from: { unsigned_abs from ≤ 2 ^ 40 },
+    ghost near_until: { unsigned_abs until ≤ 2 ^ 40 },
 }
 
 impl<'a> Once<'a> {
@@ -65,54 +69,27 @@ impl<'a> Once<'a> {
         }))
     }
 
-    // The first position of the range and its end; a range without a position is taken to lie at 0.
-    fn positions(&self, n: u32) -> (u32, u32)
-        requires { is_range_of n self.now.from self.now.until ≡ true }
-        ensures first { result.0 ≡ first_of (once_view self.now) }
-        ensures end { result.1 ≡ end_of (once_view self.now) }
-        ensures order { result.0 ≤ result.1 }
-        ensures inside { result.1 ≤ n }
+    // The sum over the range.
+    fn query(&self) -> Query
+        ensures query { query_term_of result ≡ sum_query (once_view self.now) }
+        ensures limits { IsWithinLimits (query_term_of result) }
     {
-        if self.from < self.until {
-            (self.from as u32, self.until as u32)
-        } else {
-            (0, 0)
-        }
-    }
-
-    // The line of the sum.
-    fn sum_line(&self, alloc: Global, xs: &[i32]) -> Result<String, AllocError>
-        requires few { length xs.now ≤ most_readings }
-        requires small { AreReadings xs.now }
-        requires inside { is_range_of (length xs.now) self.now.from self.now.until ≡ true }
-        ensures { IfOk result (λ t. IsSumLine (once_view self.now) xs.now (string_bytes t)) }
-    {
-        let (from, until) = self.positions(xs.len() as u32);
-        let answer = answer_over(alloc, xs, from, until, self.budget)?;
-        let text = line_of(alloc, &answer)?;
-        Ok(text)
+        let bounds = Bounds {
+            l: self.from,
+            r: self.until,
+        };
+        Query::Sum(Series::Base(series_name()), Some(bounds))
     }
 
     // The answer over the bytes of the file.
     fn answer_in_file(&self, alloc: Global, bytes: &[u8]) -> Result<String, Stop>
         requires { length bytes.now ≤ most_csv }
-        ensures ok { IfOk result (λ t. (xs : List ℤ) × (summed_in (once_view self.now) bytes.now ≡ Ok xs)
-            × IsSumLine (once_view self.now) xs (string_bytes t)) }
+        ensures ok { IfOk result (λ t. IsSummed (once_view self.now) bytes.now (string_bytes t)) }
         ensures refused { IfErr result (λ s. IfRefused s (IsStepRefusal (summed_in (once_view self.now) bytes.now))) }
     {
         let xs = readings_of(alloc, bytes, self.column, self.scale, None)?;
-        let n = xs.len() as u32;
-        if !is_range(n, self.from, self.until) {
-            return Err(refuse(
-                alloc,
-                &Refusal::Domain {
-                    sum: 1,
-                    lo: 0,
-                    hi: i64::from(n),
-                },
-            ));
-        }
-        let text = self.sum_line(alloc, &xs)?;
+        let store = one_series(alloc, self.scale, &xs)?;
+        let text = answer_over(alloc, &store, &self.query(), self.budget)?;
         Ok(text)
     }
 
@@ -131,57 +108,30 @@ impl<'a> Once<'a> {
     }
 }
 
-// Whether a range has no position, or positions of `n` readings alone.
-fn is_range(n: u32, from: i64, until: i64) -> bool
-    ensures { result ≡ is_range_of n from until }
+// The name of the one series.
+fn series_name() -> Name
+    ensures { result ≡ codes "x" }
 {
-    from == until || (0 <= from && from < until && until <= i64::from(n))
+    match Name::of(b"x") {
+        Some(name) => name,
+        None => unreachable!(),
+    }
 }
 
 // Room for the nodes of any one series.
 const MOST_NODES: u32 = 1 << 24;
 
-// The tree of the fits of degree 0 over the readings, in an arena without nodes.
-fn fitted(arena: &mut Arena, xs: &[i32]) -> Result<Tree, AllocError>
+// The store of degree 0 of the one series.
+fn one_series(alloc: Global, scale: u8, xs: &[i32]) -> Result<Store, AllocError>
+    requires scale { scale ≤ 6 }
     requires few { length xs.now ≤ most_readings }
     requires small { AreReadings xs.now }
-    requires empty { arena.old.nodes ≡ [] }
-    requires flat { arena.old.degree ≡ 0 }
-    requires room { arena.old.limit ≡ 2 ^ 24 }
-    ensures tree { IfOk result (IsTreeOf arena.new.nodes) }
-    ensures fitted { IfOk result (λ t. value_of arena.new.nodes t ≡ fitted_series 0 xs.now) }
+    ensures { IfOk result (λ s. store_value s ≡ with_series (empty_store scale 0) (codes "x") xs.now) }
 {
-    match arena.build(xs) {
-        Ok(tree) => Ok(tree),
-        Err(TreeErr::Memory) => Err(AllocError),
-        Err(TreeErr::TooLong | TreeErr::ArenaFull) => unreachable!(),
-    }
-}
-
-// The answer of the descent over the tree of the readings.
-fn answer_over(
-    alloc: Global,
-    xs: &[i32],
-    from: u32,
-    until: u32,
-    budget: u128,
-) -> Result<Answer, AllocError>
-    requires few { length xs.now ≤ most_readings }
-    requires small { AreReadings xs.now }
-    requires order { from ≤ until }
-    requires until { until ≤ length xs.now }
-    ensures told { IfOk result (Tells xs.now from until budget) }
-    ensures above { IfOk result (λ a. a.lo ≤ℤ plain_sum xs.now (pos from) (pos until)) }
-    ensures below { IfOk result (λ a. plain_sum xs.now (pos from) (pos until) ≤ℤ a.hi) }
-    ensures wide { IfOk result (λ a. pos a.width ≡ (a.hi -ℤ a.lo)) }
-    ensures within { IfOk result (λ a. a.width ≤ budget) }
-{
-    let mut arena = Arena::new(alloc, 0, MOST_NODES);
-    let trees = [fitted(&mut arena, xs)?];
-    let mut nodes = ArenaNodes::new(&arena, &trees);
-    match descend(alloc, &mut nodes, &mut (), xs, from, until, budget) {
-        Ok(answer) => Ok(answer),
-        Err(DescentErr::Memory) => Err(AllocError),
-        Err(DescentErr::Failed | DescentErr::Bad) => unreachable!(),
-    }
+    let mut store = match Store::new(alloc, scale, 0, MOST_NODES) {
+        Ok(store) => store,
+        Err(Memory) => return Err(AllocError),
+    };
+    add(&mut store, series_name(), xs)?;
+    Ok(store)
 }

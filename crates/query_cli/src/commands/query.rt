@@ -1,10 +1,9 @@
 ghost use Rattle.std.specs.Prelude.{◌≡◌, ◌≤◌, false, true, length, map, option_map, string_bytes, Some, Err, Ok, IfOk, IfErr, if◌then◌else◌};
 ghost use Rattle.expr.specs.Terms.{query_term_of};
-ghost use Rattle.semantics.specs.Admission.{nodes_of};
-ghost use Rattle.store_file.specs.StoreValue.{StoreValue};
+ghost use Rattle.semantics.specs.Limits.{IsWithinLimits};
+ghost use Rattle.query_cli.specs.Asked.{Asked, IsIntervalLine};
 ghost use Rattle.query_cli.specs.Commands.{query};
-ghost use Rattle.query_cli.specs.Commands.Query.{Asked, IsAdmittedValue, IsValueLine, admitted_in, asked_in, query_in, query_of, query_reads};
-ghost use Rattle.query_cli.specs.Numbers.{is_of_numbers};
+ghost use Rattle.query_cli.specs.Commands.Query.{asked_in, query_in, query_of, query_reads};
 ghost use Rattle.query_cli.specs.Reading.{most_store};
 ghost use Rattle.query_cli.specs.Run.{IsDone, IsRefused};
 ghost use Rattle.query_cli.specs.Shelf.{OnlyReads, RoseAtMost};
@@ -12,10 +11,8 @@ ghost use Rattle.query_cli.specs.Stops.{IfRefused, IfStopped, IsStepRefusal};
 ghost use Rattle.query_cli.specs.Views.{command_view, query_view};
 
 use crate::commands::Command;
-use crate::descent::Answer;
-use crate::numbers::{evaluate, is_of_numbers};
 use crate::refusals::Refusal;
-use crate::steps::answer_line::line_of;
+use crate::steps::asked::answer_over;
 use crate::steps::files::{MOST_STORE, read_file};
 use crate::steps::store::known_store;
 use crate::stop::{Fault, Halt, Stop, refuse};
@@ -24,7 +21,7 @@ use expr_parse::{ParseErr, parse};
 use outside::Shelf;
 use std::alloc::Global;
 
-/// `query STORE BUDGET QUERY`: the interval of what a query over numbers comes to.
+/// `query STORE BUDGET QUERY`: the interval of what a query comes to over the series of a store.
 #[derive(Drop)]
 pub(crate) struct Query<'a> {
     pub(crate) store: &'a str,
@@ -69,50 +66,16 @@ impl<'a> Query<'a> {
     }
 }
 
-// The query of a text, which is over numbers alone.
+// The query of a text.
 fn read_query(alloc: Global, text: &str) -> Result<expr::Query, Stop>
     ensures ok { IfOk result (λ q. query_in text.now ≡ Ok (query_term_of q)) }
-    ensures numbers { IfOk result (λ q. is_of_numbers (query_term_of q) ≡ true) }
-    ensures nodes { IfOk result (λ q. length (nodes_of (query_term_of q)) ≤ 4096) }
+    ensures limits { IfOk result (λ q. IsWithinLimits (query_term_of q)) }
     ensures refused { IfErr result (λ s. IfRefused s (IsStepRefusal (query_in text.now))) }
 {
     match parse(alloc, text.as_bytes()) {
-        Ok(q) => {
-            if is_of_numbers(&q) {
-                Ok(q)
-            } else {
-                Err(refuse(alloc, &Refusal::Usage))
-            }
-        }
+        Ok(q) => Ok(q),
         Err(ParseErr::Memory) => Err(Stop::Memory),
         Err(e) => Err(refuse(alloc, &Refusal::BadQuery(e))),
-    }
-}
-
-// What a query over numbers comes to, whatever the store.
-fn admitted(alloc: Global, q: &expr::Query) -> Result<i128, Stop>
-    requires numbers { is_of_numbers (query_term_of q.now) ≡ true }
-    requires nodes { length (nodes_of (query_term_of q.now)) ≤ 4096 }
-    ensures ok { IfOk result (λ v. (m : StoreValue) → IsAdmittedValue (query_term_of q.now) m v) }
-    ensures refused { IfErr result (λ s. IfRefused s (λ r. (m : StoreValue)
-        → IsStepRefusal (admitted_in (query_term_of q.now) m) r)) }
-{
-    match evaluate(q, 1) {
-        Ok(evaluated) => Ok(evaluated.value),
-        Err(node) => Err(refuse(alloc, &Refusal::Range(node))),
-    }
-}
-
-// The interval of one number, for which no node is used.
-fn exactly(value: i128) -> Answer
-    ensures { result ≡ record { lo = value; hi = value; width = 0; nodes = 0; opened = 0 } }
-{
-    Answer {
-        lo: value,
-        hi: value,
-        width: 0,
-        nodes: 0,
-        opened: 0,
     }
 }
 
@@ -123,15 +86,13 @@ fn answer_in_store(
     budget: u128,
     bytes: &[u8],
 ) -> Result<String, Stop>
-    requires numbers { is_of_numbers (query_term_of q.now) ≡ true }
-    requires nodes { length (nodes_of (query_term_of q.now)) ≤ 4096 }
+    requires limits { IsWithinLimits (query_term_of q.now) }
     requires few { length bytes.now ≤ most_store }
     ensures ok { IfOk result (λ t. (asked : Asked) × (asked_in (query_term_of q.now) bytes.now ≡ Ok asked)
-        × IsValueLine asked budget (string_bytes t)) }
+        × IsIntervalLine asked budget (string_bytes t)) }
     ensures refused { IfErr result (λ s. IfRefused s (IsStepRefusal (asked_in (query_term_of q.now) bytes.now))) }
 {
-    known_store(alloc, bytes)?;
-    let value = admitted(alloc, q)?;
-    let line = line_of(alloc, &exactly(value))?;
+    let store = known_store(alloc, bytes)?;
+    let line = answer_over(alloc, &store, q, budget)?;
     Ok(line)
 }

@@ -1,4 +1,4 @@
-ghost use Rattle.query_cli.specs.Refusals.{csv_line, line_of, query_line, series_line, store_line, domain, range};
+ghost use Rattle.query_cli.specs.Refusals.{csv_line, line_of, query_line, series_line, store_line, domain, range, query_rank, query_unknown};
 ghost use Rattle.query_cli.specs.Views.{refusal_view};
 ghost use Rattle.std.specs.Prelude.{◌≡◌, IfOk, string_bytes};
 
@@ -76,6 +76,21 @@ fn line_of_text(alloc: Global, e: ParseErr) -> Result<String, AllocError>
     }
 }
 
+fn line_of_unknown(alloc: Global, name: &Name) -> Result<String, AllocError>
+    ensures { IfOk result (λ t. string_bytes t ≡ line_of (query_unknown name.now)) }
+{
+    let name = name_text(name);
+    let text = format!(in alloc; "query unknown {name}\n")?;
+    Ok(text)
+}
+
+fn line_of_rank(alloc: Global, sum: u32) -> Result<String, AllocError>
+    ensures { IfOk result (λ t. string_bytes t ≡ line_of (query_rank sum)) }
+{
+    let text = format!(in alloc; "query rank {sum}\n")?;
+    Ok(text)
+}
+
 fn line_of_range(alloc: Global, node: u32) -> Result<String, AllocError>
     ensures { IfOk result (λ t. string_bytes t ≡ line_of (range node)) }
 {
@@ -95,6 +110,8 @@ pub(crate) fn line_of_refusal(alloc: Global, refusal: &Refusal<'_>) -> Result<St
         Refusal::SeriesFault(name, e) => line_of_series(alloc, name, *e),
         Refusal::Domain { sum, lo, hi } => line_of_domain(alloc, *sum, *lo, *hi),
         Refusal::BadQuery(e) => line_of_text(alloc, *e),
+        Refusal::QueryUnknown(name) => line_of_unknown(alloc, name),
+        Refusal::QueryRank(sum) => line_of_rank(alloc, *sum),
         Refusal::StoreFault => String::from_str(alloc, "store fault\n"),
         Refusal::Range(node) => line_of_range(alloc, *node),
     }

@@ -18,4 +18,4 @@ returns-in_err-text-clause-refused g c =
 pub returns-clause-done : goal.returns-clause-done
 returns-clause-done g c =
     let told = rw c.deref.ensures.value at c.in_ok-text.ensures.ok in
-    once_done (once_view c.args.self.now) (g.S.Shelf.files c.args.shelf.now) _ c.in_ok-bytes.bytes.items _ told.0 c.in_ok-bytes.ensures.held told.1 told.2 c.read_file.ensures.shelf.files_stay
+    once_done (once_view c.args.self.now) (g.S.Shelf.files c.args.shelf.now) _ c.in_ok-bytes.bytes.items _ c.in_ok-bytes.ensures.held told c.read_file.ensures.shelf.files_stay

@@ -13,6 +13,8 @@ use std::io::{self, ErrorKind};
 use std::process::ExitCode;
 
 #[cfg(test)]
+mod gen_tests;
+#[cfg(test)]
 mod query_tests;
 #[cfg(test)]
 mod store_tests;

@@ -2,6 +2,7 @@
 pub mod Append
 pub mod Check
 pub mod Column
+pub mod Gen
 pub mod Load
 pub mod New
 pub mod Once

@@ -1,10 +1,12 @@
 -- What is known of the readings that a seed determines.
-use Rattle.std.proofs.Common.{◌≡◌, ◌∙◌, ◌+◌, ◌*◌, ◌/◌, ◌%◌, ◌^◌, ◌≤◌, ℕ, zero, suc, pos, length, refl, arith, length-append}
+use Rattle.std.proofs.Common.{◌≡◌, ◌∙◌, ◌+◌, ◌*◌, ◌/◌, ◌%◌, ◌^◌, ◌≤◌, ℕ, zero, suc, ℤ, pos, List, [], ◌∷◌, ◌++◌, length, refl, arith, length-append}
 use Rattle.std.specs.Prelude.{◌-ℤ◌, unsigned_abs}
 use Rattle.std.proofs.Math.Nat.{mod-add-mod}
 use Rattle.std.proofs.lemmas.Bool.Decides.{nat_tests}
 use Rattle.std.proofs.lemmas.Int.{ints}
-use Rattle.segment.specs.Measure.{AreReadings}
+use Rattle.semantics.specs.Readings.{reading}
+use Rattle.semantics.proofs.SumLaws.{most_below-le}
+use Rattle.segment.specs.Measure.{AreReadings, greatest_reading, magnitude_at}
 use Rattle.segment.proofs.ReadingLaws.{AreReadings-nil, AreReadings-push}
 use Rattle.query_cli.specs.Generated.{generated, most_generated, next_state, reading_of, state_after, wave}
 
@@ -33,3 +35,18 @@ generated-small seed zero = AreReadings-nil
 generated-small seed (suc n) =
     let far : unsigned_abs (reading_of n (state_after seed (suc n))) ≤ 10 ^ 9 = omega (arith, reading-near n (state_after seed n)) in
     AreReadings-push (generated seed n) (reading_of n (state_after seed (suc n))) (generated-small seed n) far
+
+near_push : (xs : List ℤ) (x : ℤ) (most : ℕ) → ((i : ℕ) → unsigned_abs (reading xs i) ≤ most) → unsigned_abs x ≤ most → (i : ℕ) → unsigned_abs (reading (xs ++ x ∷ []) i) ≤ most
+near_push [] x most h near zero = near
+near_push [] x most h near (suc i) = omega arith
+near_push (y ∷ ys) x most h near zero = h zero
+near_push (y ∷ ys) x most h near (suc i) = near_push ys x most (λ j. h (suc j)) near i
+
+each_near : (seed n i : ℕ) → unsigned_abs (reading (generated seed n) i) ≤ most_generated
+each_near seed zero i = omega arith
+each_near seed (suc n) i =
+    near_push (generated seed n) (reading_of n (state_after seed (suc n))) most_generated (each_near seed n) (reading-near n (state_after seed n)) i
+
+pub generated-near : (seed n : ℕ) → greatest_reading (generated seed n) ≤ most_generated
+unfolding greatest_reading
+generated-near seed n = most_below-le (magnitude_at (generated seed n)) (length (generated seed n)) most_generated (λ i lt. each_near seed n i)

@@ -1,3 +1,4 @@
+pub mod AddedSums
 pub mod AskedLaws
 pub mod CommandLaws
 pub mod EmptyLaws

@@ -19,10 +19,11 @@ use Rattle.store_file.specs.Grown.{growth_refusal}
 use Rattle.store_file.specs.Last.{last_in}
 use Rattle.store_file.specs.declared.decoding.StoreErr.{StoreErr}
 use Rattle.query_cli.specs.Asked.{admitted_in}
-use Rattle.query_cli.specs.Commands.{Command, append, check, load, new_store, once, query, refusal_of}
+use Rattle.query_cli.specs.Commands.{Command, append, check, gen, load, new_store, once, query, refusal_of}
 use Rattle.query_cli.specs.Commands.Check.{CheckCommand, checked_by}
 use Rattle.query_cli.specs.Commands.Append.{append_by, appended_in}
 use Rattle.query_cli.specs.Commands.Column.{Bringing, Brought, ColumnCommand, brought_by}
+use Rattle.query_cli.specs.Commands.Gen.{GenCommand, roomy_by, roomy_in}
 use Rattle.query_cli.specs.Commands.Load.{load_by, loaded_in}
 use Rattle.query_cli.specs.Commands.Once.{OnceCommand, one_series, sum_query, summed_by, summed_in}
 use Rattle.query_cli.specs.Commands.Query.{QueryCommand, asked_by, asked_in, query_in}
@@ -131,6 +132,12 @@ query_isnt reading c =
     behind (query_in c.text) (λ q. and_then (store_bytes reading c.store) (λ bytes. asked_in q bytes)) (error {E = ParseErr} bad_query (parsed c.text) (λ e k. cc))
     (λ q. behind (store_bytes reading c.store) (λ bytes. asked_in q bytes) (read c.store (reading.store c.store)) (in_store q))
 
+gen_isnt : (reading : Reading) (c : GenCommand) → roomy_by reading c ≡ Err usage → ⊥
+gen_isnt reading c =
+    behind (store_bytes reading c.store) (λ stored. roomy_in c stored) (read c.store (reading.store c.store))
+    (λ stored. behind (store_in stored) (λ m. room_in m c.name) (error {E = StoreErr} bad_store (decode_of stored) (λ e k. cc))
+    (λ m. unless {E = SeriesErr} (series_fault c.name) m (name_refusal m c.name) (λ e k. cc)))
+
 error_of : {A : Type 0} (x : Result A Refusal) (r : Refusal) → result_err x ≡ Some r → x ≡ Err r
 error_of (Ok a) r h = cc
 error_of (Err e) r h = cc
@@ -157,6 +164,7 @@ is_usage reading (Some (load c)) h = absurd (bring_isnt reading c (load_by c) (l
 is_usage reading (Some (append c)) h = absurd (bring_isnt reading c (append_by c) (append_isnt c) (error_of (brought_by reading c (append_by c)) usage h))
 is_usage reading (Some (check c)) h = absurd (check_isnt reading c (error_of (checked_by reading c) usage h))
 is_usage reading (Some (query c)) h = absurd (query_isnt reading c (error_of (asked_by reading c) usage h))
+is_usage reading (Some (gen c)) h = absurd (gen_isnt reading c (error_of (roomy_by reading c) usage h))
 
 pub usage_only : (files : Option Files) (command : Option Command) (r : Refusal) → IsRefused files command r → status_of r ≡ status.Usage → command ≡ None
 usage_only files command r k e =

@@ -2,6 +2,7 @@
 pub mod Append
 pub mod Check
 pub mod Column
+pub mod Gen
 pub mod Load
 pub mod New
 pub mod Once
@@ -14,6 +15,7 @@ use Rattle.semantics.specs.Files.{Files}
 use Rattle.query_cli.specs.Commands.Append.{append_by}
 use Rattle.query_cli.specs.Commands.Check.{CheckCommand, CheckAnswers, check_of, checked_by}
 use Rattle.query_cli.specs.Commands.Column.{ColumnCommand, ColumnAnswers, ColumnReplays, brought_by, column_reads, column_words, files_after_column}
+use Rattle.query_cli.specs.Commands.Gen.{GenAnswers, GenCommand, GenReplays, files_after_gen, gen_of, roomy_by}
 use Rattle.query_cli.specs.Commands.Load.{load_by}
 use Rattle.query_cli.specs.Commands.New.{NewCommand, files_after_new, new_line, new_of}
 use Rattle.query_cli.specs.Commands.Once.{OnceCommand, OnceAnswers, once_of, summed_by}
@@ -30,6 +32,7 @@ pub data Command : Type 0 where
   append : ColumnCommand → Command
   check : CheckCommand → Command
   query : QueryCommand → Command
+  gen : GenCommand → Command
 
 -- the command that the words spell
 unfoldable pub command_of : List (List ℕ) → Option Command
@@ -40,6 +43,7 @@ command_of words =
     else if has_form words (codes "append") 5 then option_map append (column_words words)
     else if has_form words (codes "check") 2 then option_map check (check_of words)
     else if has_form words (codes "query") 4 then option_map query (query_of words)
+    else if has_form words (codes "gen") 5 then option_map gen (gen_of words)
     else None
 
 -- the same, by the words as the program has them
@@ -55,6 +59,7 @@ refusal_of reading (Some (load c)) = result_err (brought_by reading c (load_by c
 refusal_of reading (Some (append c)) = result_err (brought_by reading c (append_by c))
 refusal_of reading (Some (check c)) = result_err (checked_by reading c)
 refusal_of reading (Some (query c)) = result_err (asked_by reading c)
+refusal_of reading (Some (gen c)) = result_err (roomy_by reading c)
 
 -- the text of the answer, where nothing is refused
 abbrev pub Answers : Reading → Option Command → List ℕ → Type 0
@@ -65,6 +70,7 @@ Answers reading (Some (load c)) text = ColumnAnswers reading c (load_by c) text
 Answers reading (Some (append c)) text = ColumnAnswers reading c (append_by c) text
 Answers reading (Some (check c)) text = CheckAnswers reading c text
 Answers reading (Some (query c)) text = QueryAnswers reading c text
+Answers reading (Some (gen c)) text = GenAnswers reading c text
 
 -- whether files are read
 abbrev pub is_reader : Option Command → Bool
@@ -75,6 +81,7 @@ is_reader (Some (load c)) = true
 is_reader (Some (append c)) = true
 is_reader (Some (check c)) = true
 is_reader (Some (query c)) = query_reads c
+is_reader (Some (gen c)) = true
 
 -- how many files are read: none behind the first refusal
 abbrev pub reads_of : Reading → Option Command → ℕ
@@ -85,6 +92,7 @@ reads_of reading (Some (load c)) = column_reads reading c
 reads_of reading (Some (append c)) = column_reads reading c
 reads_of reading (Some (check c)) = 1
 reads_of reading (Some (query c)) = if query_reads c then 1 else 0
+reads_of reading (Some (gen c)) = 1
 
 -- whether a file is written
 abbrev pub is_writer : Option Command → Bool
@@ -95,6 +103,7 @@ is_writer (Some (load c)) = true
 is_writer (Some (append c)) = true
 is_writer (Some (check c)) = false
 is_writer (Some (query c)) = false
+is_writer (Some (gen c)) = true
 
 -- what becomes of the files; a command that is refused leaves them
 abbrev pub files_after : Files → Option Command → Files
@@ -107,6 +116,7 @@ files_after files (Some (append c)) =
     files_after_column files c (append_by c) (brought_by (reading_in files) c (append_by c))
 files_after files (Some (check c)) = files
 files_after files (Some (query c)) = files
+files_after files (Some (gen c)) = files_after_gen files c (roomy_by (reading_in files) c)
 
 -- what becomes of the store for which STORE stood, and of its history, once STORE is written
 abbrev pub IsReplayed : Files → Option Command → Option Files → Type 0
@@ -118,3 +128,4 @@ IsReplayed old (Some (load c)) now = ColumnReplays old c (load_by c) now
 IsReplayed old (Some (append c)) now = ColumnReplays old c (append_by c) now
 IsReplayed old (Some (check c)) now = ⊥
 IsReplayed old (Some (query c)) now = ⊥
+IsReplayed old (Some (gen c)) now = GenReplays old c now

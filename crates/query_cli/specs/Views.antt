@@ -1,10 +1,11 @@
 -- Commands and refusals without where their words lie.
-use Rattle.query_cli.specs.Commands.{Command, once, new_store, load, append, check, query}
+use Rattle.query_cli.specs.Commands.{Command, once, new_store, load, append, check, query, gen}
 use Rattle.query_cli.specs.Commands.Once.{OnceCommand}
 use Rattle.query_cli.specs.Commands.New.{NewCommand}
 use Rattle.query_cli.specs.Commands.Column.{ColumnCommand}
 use Rattle.query_cli.specs.Commands.Check.{CheckCommand}
 use Rattle.query_cli.specs.Commands.Query.{QueryCommand}
+use Rattle.query_cli.specs.Commands.Gen.{GenCommand}
 use Rattle.query_cli.specs.Refusals.{Refusal, usage, absent, too_big, bad_csv, bad_store, series_fault, domain, bad_query, query_rank, query_unknown, store_fault, range}
 use Rattle.query_cli.specs.declared.commands.Command.{Command as CommandCode}
 use Rattle.query_cli.specs.declared.commands.Command.TheVariants as command
@@ -15,6 +16,7 @@ use Rattle.query_cli.specs.declared.commands.load.Load.{Load}
 use Rattle.query_cli.specs.declared.steps.column.Column.{Column}
 use Rattle.query_cli.specs.declared.commands.check.Check.{Check}
 use Rattle.query_cli.specs.declared.commands.query.Query.{Query}
+use Rattle.query_cli.specs.declared.commands.generate.Gen.{Gen}
 use Rattle.query_cli.specs.declared.refusals.Refusal.{Refusal as RefusalCode}
 use Rattle.query_cli.specs.declared.refusals.Refusal.TheVariants as refusal
 
@@ -46,6 +48,9 @@ check_view c = record { store = c.store.now }
 abbrev pub query_view : Query → QueryCommand
 query_view q = record { store = q.store.now; budget = q.budget; text = q.text.now }
 
+abbrev pub gen_view : Gen → GenCommand
+gen_view g = record { store = g.store.now; name = g.name; count = g.count; seed = g.seed }
+
 abbrev pub command_view : CommandCode → Command
 command_view (command.Once o) = once (once_view o)
 command_view (command.New n) = new_store (new_view n)
@@ -53,6 +58,7 @@ command_view (command.Load l) = load (load_view l)
 command_view (command.Append a) = append (append_view a)
 command_view (command.Check c) = check (check_view c)
 command_view (command.Query q) = query (query_view q)
+command_view (command.Gen g) = gen (gen_view g)
 
 abbrev pub refusal_view : RefusalCode → Refusal
 refusal_view refusal.Usage = usage

@@ -10,6 +10,7 @@ ghost use Rattle.query_cli.specs.Views.{command_view};
 
 mod append;
 mod check;
+mod generate;
 mod load;
 mod new;
 mod once;
@@ -30,6 +31,7 @@ pub(crate) enum Command<'a> {
     Append(append::Append<'a>),
     Check(check::Check<'a>),
     Query(query::Query<'a>),
+    Gen(generate::Gen<'a>),
 }
 
 /// The command that the words spell.
@@ -54,6 +56,9 @@ pub(crate) fn read_command(words: &[String]) -> Option<Command<'_>>
     }
     if is_form(words, "query", 4) {
         return query::Query::read(words);
+    }
+    if is_form(words, "gen", 5) {
+        return generate::Gen::read(words);
     }
     None
 }
@@ -87,5 +92,6 @@ pub(crate) fn answer<S: Shelf>(
         Some(Command::Append(append)) => append.answer(alloc, shelf),
         Some(Command::Check(check)) => check.answer(alloc, shelf),
         Some(Command::Query(query)) => query.answer(alloc, shelf),
+        Some(Command::Gen(generate)) => generate.answer(alloc, shelf),
     }
 }

@@ -11,6 +11,10 @@ pub(crate) const MOST_DEGREE: u8 = 2;
 
 pub(crate) const MOST_BUDGET: u128 = (1 << 127) - 1;
 
+pub(crate) const MOST_READINGS: u128 = 1 << 20;
+
+pub(crate) const MOST_SEED: u128 = (1 << 64) - 1;
+
 pub(crate) const MOST_POSITION: u64 = 1 << 40;
 
 pub(crate) fn word_at(words: &[String], i: usize) -> &str

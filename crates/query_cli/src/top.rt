@@ -49,9 +49,9 @@ fn reply_to<S: Shelf>(alloc: Global, words: &[String], shelf: &mut S) -> Result<
 /// Does what the words say, over these files, and writes the answer or the line of the refusal.
 /// Only want of memory is free: it may come in place of any other answer.
 pub fn run<S: Shelf, O: Out>(alloc: Global, words: &[String], shelf: &mut S, out: &mut O) -> Status
-    // With status 0 the output grew by the line of the answer, over the bytes that were read: those of the files, where the
-    // shelf tells them. The interval of `once` holds the plain sum of the readings, and that of `query` what the query
-    // comes to; both are no wider than the budget.
+    // With status 0 the output grew by the line of the answer, over the bytes that were read: those of the files, where
+    // the shelf tells them. The interval of `once` holds the plain sum of the readings, and that of `query` what the
+    // query comes to; both are no wider than the budget.
     ensures answer { result ≡ Status.Ok
         → Grew (O.written out.old) (O.written out.new) (IsAnswer (S.files shelf.old) (command_in words.now)) }
 
@@ -94,8 +94,8 @@ pub fn run<S: Shelf, O: Out>(alloc: Global, words: &[String], shelf: &mut S, out
     ensures fetches { IfTold (S.files shelf.old) (λ m.
         RoseAtMost (reads_of (reading_in m) (command_in words.now)) (S.fetches shelf.old) (S.fetches shelf.new)) }
 
-    // With status 0 the files are as after the command, and after a refusal as before. Whatever the status, they are one
-    // of the two, so after want of memory or a fault of the output all was done or nothing.
+    // With status 0 the files are as after the command, and after a refusal as before. Whatever the status, they are
+    // one of the two, so after want of memory or a fault of the output all was done or nothing.
     ensures left { result ≡ Status.Ok
         → IfTold (S.files shelf.old) (λ m. S.files shelf.new ≡ Some (files_after m (command_in words.now))) }
     ensures kept { result ≢ Status.Ok → result ≢ Status.Memory → result ≢ Status.OutFault
@@ -108,8 +108,9 @@ pub fn run<S: Shelf, O: Out>(alloc: Global, words: &[String], shelf: &mut S, out
         → S.files shelf.new ≡ Some (files_after m (command_in words.now))) }
     ensures untold { S.files shelf.old ≡ None → S.files shelf.new ≡ None }
 
-    // Whatever the status, the files are as before, or STORE is one step further: a store that stood there has taken this
-    // command, one that stood for a history stands for that history and this command, and every other file is as it was.
+    // Whatever the status, the files are as before, or STORE is one step further: a store that stood there has taken
+    // this command, one that stood for a history stands for that history and this command, and every other file is as
+    // it was.
     ensures replay { IsKeptOrReplayed (S.files shelf.old) (command_in words.now) (S.files shelf.new) }
 {
     let Ok(reply) = reply_to(alloc, words, shelf) else {

@@ -63,7 +63,8 @@ impl<'a> Append<'a> {
         ensures replacing { result ≡ Err (Halt.Faulted Fault.Replacing)
             → IfTold (S.files shelf.old) (λ m. Accepts m (Some (append (append_view self.now)))) }
         ensures fetches { IfTold (S.files shelf.old) (λ m.
-            RoseAtMost (column_reads (reading_in m) (append_view self.now)) (S.fetches shelf.old) (S.fetches shelf.new)) }
+            RoseAtMost (column_reads (reading_in m) (append_view self.now))
+            (S.fetches shelf.old) (S.fetches shelf.new)) }
     {
         let stored = read_file(alloc, shelf, MOST_STORE, self.0.store)?;
         let text = read_file(alloc, shelf, MOST_CSV, self.0.csv)?;

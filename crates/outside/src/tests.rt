@@ -140,7 +140,7 @@ fn parts_of_a_folder(rt: HostRuntime) -> Result<(), Fail> {
     for at in 0..30 {
         assert!(rt; shelf.part(name, 19960 + at, &mut buf) == Ok(true));
         let from = 19960 + at as usize;
-        assert!(rt; buf.as_slice() == &long[from..from + 4]);
+        assert!(rt; long.get(from..from + 4) == Some(buf.as_slice()));
     }
     for (other, at, want) in [
         (name, 19997, Ok(false)),

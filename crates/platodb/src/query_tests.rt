@@ -82,3 +82,46 @@ fn queries_over_curves(rt: HostRuntime) -> Result<(), Fail> {
         ],
     )
 }
+
+// Several series in one query, two of them of the same readings; ranges of one position and of none; a series of none; and
+// budgets around each width of a descent.
+#[test]
+fn queries_over_several_series(rt: HostRuntime) -> Result<(), Fail> {
+    let alloc = rt.alloc();
+    let mut turned = String::from_str(alloc, "v\n")?;
+    for _ in 0..16u32 {
+        turned.push_str("10\n0\n")?;
+    }
+    let files = [
+        ("a.csv", ALTERNATING),
+        ("b.csv", b"v\n1\n2\n3\n".as_slice()),
+        ("c.csv", turned.as_bytes()),
+        ("e.csv", b"v\n".as_slice()),
+    ];
+    let mut shelf = shelf_with(alloc, &files, &[], &[])?;
+    says(
+        &rt,
+        alloc,
+        &mut shelf,
+        &[
+            ("new s 0 0", "new\n", 0),
+            ("load s x a.csv v", "loaded x 32\n", 0),
+            ("load s y a.csv v", "loaded y 32\n", 0),
+            ("load s b b.csv v", "loaded b 3\n", 0),
+            ("load s e e.csv v", "loaded e 0\n", 0),
+            ("load s z c.csv v", "loaded z 32\n", 0),
+            ("query s 0 sum(x+y,0,3)+sum(b)", "26 26 0 5 3\n", 0),
+            ("query s 639 sum(x+y)", "80 560 480 4 1\n", 0),
+            ("query s 200 sum(x+z,0,1)", "-75 85 160 4 1\n", 0),
+            ("query s 0 sum(x-y)", "0 0 0 4 4\n", 0),
+            ("query s 0 sum(x,5,5)", "0 0 0 1 0\n", 0),
+            ("query s 0 sum(e)", "0 0 0 0 0\n", 0),
+            ("query s 0 sum(e,0,1)", "domain 1 0 0\n", 12),
+            ("query s 2560 sum(x)*sum(b)-3", "-3 2557 2560 2 0\n", 0),
+            ("query s 2559 sum(x)*sum(b)-3", "317 1917 1600 3 1\n", 0),
+            ("query s 1600 sum(x)*sum(b)-3", "317 1917 1600 3 1\n", 0),
+            ("query s 1599 sum(x)*sum(b)-3", "637 1277 640 3 2\n", 0),
+            ("query s 639 sum(x)*sum(b)-3", "957 957 0 3 3\n", 0),
+        ],
+    )
+}

@@ -83,8 +83,8 @@ fn queries_over_curves(rt: HostRuntime) -> Result<(), Fail> {
     )
 }
 
-// Several series in one query, two of them of the same readings; ranges of one position and of none; a series of none; and
-// budgets around each width of a descent.
+// Several series in one query, two of them of the same readings; ranges of one position and of none; a series of none;
+// budgets around each width of a descent; and statistics.
 #[test]
 fn queries_over_several_series(rt: HostRuntime) -> Result<(), Fail> {
     let alloc = rt.alloc();
@@ -122,6 +122,18 @@ fn queries_over_several_series(rt: HostRuntime) -> Result<(), Fail> {
             ("query s 1600 sum(x)*sum(b)-3", "317 1917 1600 3 1\n", 0),
             ("query s 1599 sum(x)*sum(b)-3", "637 1277 640 3 2\n", 0),
             ("query s 639 sum(x)*sum(b)-3", "957 957 0 3 3\n", 0),
+            ("query s 0 varnum(x+y,0,32)", "102400 102400 0 4 4\n", 0),
+            (
+                "query s 0 covnum(x,shift(x,1),1,32)",
+                "-24000 -24000 0 2 2\n",
+                0,
+            ),
+            ("query s 0 varnum(x,5,5)", "0 0 0 1 0\n", 0),
+            (
+                "query s 0 varnum(x*100000000000000000,0,32)",
+                "range 2\n",
+                13,
+            ),
         ],
     )
 }

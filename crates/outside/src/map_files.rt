@@ -30,7 +30,8 @@ pub(crate) fn fetch_in(
     limit: u64,
     into: &mut Vec<u8>,
 ) -> Result<Fetched, FetchErr>
-    ensures answer { IfOk result (λ found. IsFetched (file_of (files_of files.now) name.now) limit found into.new.items) }
+    ensures answer { IfOk result (λ found.
+        IsFetched (file_of (files_of files.now) name.now) limit found into.new.items) }
     ensures within { result ≡ Ok Fetched.Whole → length into.new.items ≤ limit }
     ensures err { IfErr result (λ e. e ≡ FetchErr.Memory) }
 {

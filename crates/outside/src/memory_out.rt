@@ -65,11 +65,15 @@ impl Out for MemOut {
     #[tactic(auto, using(crate::proofs::CallLaws::faults_stay, crate::proofs::CallLaws::cut_rises))]
     fn put(&mut self, piece: &[u8]) -> Result<(), PutErr>
         ensures ok { OnOk result (Appends (Some (bytes_in self.old)) (Some (bytes_in self.new)) piece.now) }
-        ensures cut { result ≡ Err PutErr.Failed → (front : List ℕ) × (rest : List ℕ) × (piece.now ≡ front ++ rest) × Appends (Some (bytes_in self.old)) (Some (bytes_in self.new)) front }
-        ensures none { result ≡ Err PutErr.Memory → Appends (Some (bytes_in self.old)) (Some (bytes_in self.new)) [] }
+        ensures cut { result ≡ Err PutErr.Failed
+            → (front : List ℕ) × (rest : List ℕ) × (piece.now ≡ front ++ rest)
+            × Appends (Some (bytes_in self.old)) (Some (bytes_in self.new)) front }
+        ensures none { result ≡ Err PutErr.Memory
+            → Appends (Some (bytes_in self.old)) (Some (bytes_in self.new)) [] }
 
         // It fails exactly where its number is listed, after as many bytes as the pair says.
-        ensures exact { IsPut (cut_next (failing_puts self.old) (puts_made self.old)) (bytes_in self.old) piece.now (bytes_in self.new) result }
+        ensures exact { IsPut (cut_next (failing_puts self.old) (puts_made self.old))
+            (bytes_in self.old) piece.now (bytes_in self.new) result }
 
         ensures failed { result ≡ Err PutErr.Failed → Rose (put_faults_of self.old) (put_faults_of self.new) }
         ensures faults_stay { put_faults_of self.old ≤ put_faults_of self.new }

@@ -98,12 +98,14 @@ impl Shelf for MemShelf {
 
     #[tactic(auto, using(crate::proofs::CallLaws::faults_stay, crate::proofs::CallLaws::fault_rises))]
     fn fetch(&mut self, name: &str, limit: u64, into: &mut Vec<u8>) -> Result<Fetched, FetchErr>
-        ensures answer { IfOk result (λ found. IsFetched (file_of (files_in self.old) name.now) limit found into.new.items) }
+        ensures answer { IfOk result (λ found.
+            IsFetched (file_of (files_in self.old) name.now) limit found into.new.items) }
         ensures within { result ≡ Ok Fetched.Whole → length into.new.items ≤ limit }
         ensures files_stay { files_in self.new ≡ files_in self.old }
 
         // It fails exactly where its number is listed.
-        ensures fails { (result ≡ Err FetchErr.Failed) ↔ IsTrue (fails_next (failing_reads self.old) (reads_made self.old)) }
+        ensures fails { (result ≡ Err FetchErr.Failed)
+            ↔ IsTrue (fails_next (failing_reads self.old) (reads_made self.old)) }
         ensures failed { result ≡ Err FetchErr.Failed → Rose (read_faults_of self.old) (read_faults_of self.new) }
         ensures read_faults_stay { read_faults_of self.old ≤ read_faults_of self.new }
         ensures replace_faults_stay { replace_faults_of self.new ≡ replace_faults_of self.old }
@@ -130,8 +132,10 @@ impl Shelf for MemShelf {
         ensures refused { OnErr result (files_in self.new ≡ files_in self.old) }
 
         // It fails exactly where its number is listed.
-        ensures fails { (result ≡ Err ReplaceErr.Failed) ↔ IsTrue (fails_next (failing_replaces self.old) (replaces_made self.old)) }
-        ensures failed { result ≡ Err ReplaceErr.Failed → Rose (replace_faults_of self.old) (replace_faults_of self.new) }
+        ensures fails { (result ≡ Err ReplaceErr.Failed)
+            ↔ IsTrue (fails_next (failing_replaces self.old) (replaces_made self.old)) }
+        ensures failed { result ≡ Err ReplaceErr.Failed
+            → Rose (replace_faults_of self.old) (replace_faults_of self.new) }
         ensures replace_faults_stay { replace_faults_of self.old ≤ replace_faults_of self.new }
         ensures read_faults_stay { read_faults_of self.new ≡ read_faults_of self.old }
 

@@ -21,7 +21,9 @@ pub trait Out {
     /// Writes the whole piece. After `Failed` a prefix of it was written, and after `Memory` nothing.
     fn put(&mut self, piece: &[u8]) -> Result<(), PutErr>
         ensures ok { OnOk result (Appends (written self.old) (written self.new) piece.now) }
-        ensures cut { result ≡ Err PutErr.Failed → (front : List ℕ) × (rest : List ℕ) × (piece.now ≡ front ++ rest) × Appends (written self.old) (written self.new) front }
+        ensures cut { result ≡ Err PutErr.Failed
+            → (front : List ℕ) × (rest : List ℕ) × (piece.now ≡ front ++ rest)
+            × Appends (written self.old) (written self.new) front }
         ensures none { result ≡ Err PutErr.Memory → Appends (written self.old) (written self.new) [] }
         ensures failed { result ≡ Err PutErr.Failed → Rose (write_faults self.old) (write_faults self.new) }
         ensures faults_stay { write_faults self.old ≤ write_faults self.new };

@@ -52,7 +52,8 @@ pub trait Shelf {
     /// Reads a file whole, where it is no longer than `limit` bytes. After any answer but `Whole` nothing is known of
     /// `into`.
     fn fetch(&mut self, name: &str, limit: u64, into: &mut Vec<u8>) -> Result<Fetched, FetchErr>
-        ensures answer { IfTold (files self.old) (λ m. IfOk result (λ found. IsFetched (file_of m name.now) limit found into.new.items)) }
+        ensures answer { IfTold (files self.old) (λ m.
+            IfOk result (λ found. IsFetched (file_of m name.now) limit found into.new.items)) }
         ensures within { result ≡ Ok Fetched.Whole → length into.new.items ≤ limit }
         ensures files_stay { files self.new ≡ files self.old }
         ensures failed { result ≡ Err FetchErr.Failed → Rose (read_faults self.old) (read_faults self.new) }
@@ -63,7 +64,8 @@ pub trait Shelf {
 
     /// The length of a file, or `None` where there is no such file.
     fn size(&mut self, name: &str) -> Result<Option<u64>, Failed>
-        ensures answer { IfTold (files self.old) (λ m. IfOk result (λ o. o ≡ option_map length (file_of m name.now))) }
+        ensures answer { IfTold (files self.old) (λ m.
+            IfOk result (λ o. o ≡ option_map length (file_of m name.now))) }
         ensures files_stay { files self.new ≡ files self.old }
         ensures failed { OnErr result (Rose (read_faults self.old) (read_faults self.new)) }
         ensures read_faults_stay { read_faults self.old ≤ read_faults self.new }
@@ -73,7 +75,8 @@ pub trait Shelf {
 
     /// Fills `buf` with the bytes of a file from `at` on, or answers false where the file ends before.
     fn part(&mut self, name: &str, at: u64, buf: &mut [u8]) -> Result<bool, Failed>
-        ensures answer { IfTold (files self.old) (λ m. IfOk result (λ found. IsPartRead (file_of m name.now) at found buf.old buf.new)) }
+        ensures answer { IfTold (files self.old) (λ m.
+            IfOk result (λ found. IsPartRead (file_of m name.now) at found buf.old buf.new)) }
         ensures files_stay { files self.new ≡ files self.old }
         ensures failed { OnErr result (Rose (read_faults self.old) (read_faults self.new)) }
         ensures read_faults_stay { read_faults self.old ≤ read_faults self.new }
@@ -83,7 +86,8 @@ pub trait Shelf {
 
     /// Writes a file anew, whatever stood there. After a refusal the files are as before.
     fn replace(&mut self, name: &str, bytes: &[u8]) -> Result<(), ReplaceErr>
-        ensures replaced { IfTold (files self.old) (λ m. OnOk result (files self.new ≡ Some (with_file m name.now bytes.now))) }
+        ensures replaced { IfTold (files self.old) (λ m.
+            OnOk result (files self.new ≡ Some (with_file m name.now bytes.now))) }
         ensures untold_stay { files self.old ≡ None → files self.new ≡ None }
         ensures refused { OnErr result (files self.new ≡ files self.old) }
         ensures failed { result ≡ Err ReplaceErr.Failed → Rose (replace_faults self.old) (replace_faults self.new) }

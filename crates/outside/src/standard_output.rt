@@ -42,7 +42,9 @@ impl<'a, P: Print> Out for StdOut<'a, P> {
 
     fn put(&mut self, piece: &[u8]) -> Result<(), PutErr>
         ensures ok { OnOk result (Appends None None piece.now) }
-        ensures cut { result ≡ Err PutErr.Failed → (front : List ℕ) × (rest : List ℕ) × (piece.now ≡ front ++ rest) × Appends None None front }
+        ensures cut { result ≡ Err PutErr.Failed
+            → (front : List ℕ) × (rest : List ℕ) × (piece.now ≡ front ++ rest)
+            × Appends None None front }
         ensures failed { result ≡ Err PutErr.Failed → Rose self.old self.new }
         ensures faults_stay { self.old ≤ self.new }
 

@@ -53,7 +53,8 @@ impl Shelf for SteadyShelf {
     ghost fetches = { λ _. None };
 
     fn fetch(&mut self, name: &str, limit: u64, into: &mut Vec<u8>) -> Result<Fetched, FetchErr>
-        ensures answer { IfOk result (λ found. IsFetched (file_of (files_on self.old) name.now) limit found into.new.items) }
+        ensures answer { IfOk result (λ found.
+            IsFetched (file_of (files_on self.old) name.now) limit found into.new.items) }
         ensures within { result ≡ Ok Fetched.Whole → length into.new.items ≤ limit }
         ensures never_fails { IfErr result (λ e. e ≡ FetchErr.Memory) }
         ensures files_stay { files_on self.new ≡ files_on self.old }
@@ -69,7 +70,8 @@ impl Shelf for SteadyShelf {
     }
 
     fn part(&mut self, name: &str, at: u64, buf: &mut [u8]) -> Result<bool, Failed>
-        ensures answer { IsOkAnd result (λ found. IsPartRead (file_of (files_on self.old) name.now) at found buf.old buf.new) }
+        ensures answer { IsOkAnd result (λ found.
+            IsPartRead (file_of (files_on self.old) name.now) at found buf.old buf.new) }
         ensures files_stay { files_on self.new ≡ files_on self.old }
     {
         Ok(part_in(&self.files, name, at, buf))

@@ -46,7 +46,8 @@ pub(crate) fn read_up_to<F: Read>(
 
 // Appends what one call reads, at most so many bytes.
 fn read_more<F: Read>(file: &mut F, most: usize, into: &mut Vec<u8>) -> Result<usize, FetchErr>
-    ensures bytes { IfOk result (λ n. (bytes : List ℕ) × Consumes (F.remaining file.old) (F.remaining file.new) bytes
+    ensures bytes { IfOk result (λ n. (bytes : List ℕ)
+        × Consumes (F.remaining file.old) (F.remaining file.new) bytes
         × (into.new.items ≡ into.old.items ++ bytes) × (length bytes ≡ n)) }
     ensures bound { IfOk result (λ n. n ≤ most) }
     ensures end { result ≡ Ok 0 → 0 < most → IsAtEnd (F.remaining file.new) }

@@ -33,7 +33,8 @@ curve_by n sum moment c = record { a = level_by n sum (slope_by n sum moment); b
 
 -- the curve with the bend c and the line through what the bend leaves of the readings
 abbrev pub curve_with : List ℤ → ℤ → Curve
-curve_with xs c = curve_by (length xs) (total_below (straightened xs c) (length xs)) (total_below (moment_at (straightened xs c)) (length xs)) c
+curve_with xs c = curve_by (length xs) (total_below (straightened xs c) (length xs))
+    (total_below (moment_at (straightened xs c)) (length xs)) c
 
 -- a reading, counted from a place
 abbrev pub in_block : List ℤ → ℕ → ℕ → ℤ
@@ -49,10 +50,15 @@ bend_of xs m = floor_of (block_of xs 0 m -ℤ pos 2 *ℤ block_of xs m m +ℤ bl
 
 -- the mean, rounded down
 unfoldable pub flat_of : List ℤ → Curve
-flat_of xs = record { a = floor_of (pos unit *ℤ total_below (reading xs) (length xs)) (length xs); b = pos 0; c = pos 0 }
+flat_of xs = record {
+  a = floor_of (pos unit *ℤ total_below (reading xs) (length xs)) (length xs);
+  b = pos 0;
+  c = pos 0;
+}
 
 unfoldable pub line_of : List ℤ → Curve
-line_of xs = curve_by (length xs) (total_below (scaled xs) (length xs)) (total_below (moment_at (scaled xs)) (length xs)) (pos 0)
+line_of xs = curve_by (length xs) (total_below (scaled xs) (length xs))
+    (total_below (moment_at (scaled xs)) (length xs)) (pos 0)
 
 unfoldable pub parabola_of : List ℤ → Curve
 parabola_of xs = curve_with xs (bend_of xs (length xs / 3))
@@ -68,11 +74,17 @@ better xs p (Some q) = if nat_lt (miss q xs) (miss p xs) then q else p
 
 -- the best up to degree 1; a line takes two readings
 abbrev pub with_line : List ℤ → Curve
-with_line xs = if nat_le 2 (length xs) then better xs (flat_of xs) (kept (length xs) (greatest_reading xs) (line_of xs)) else flat_of xs
+with_line xs =
+    if nat_le 2 (length xs)
+    then better xs (flat_of xs) (kept (length xs) (greatest_reading xs) (line_of xs))
+    else flat_of xs
 
 -- the best up to degree 2; a parabola takes three readings
 abbrev pub with_parabola : List ℤ → Curve
-with_parabola xs = if nat_le 3 (length xs) then better xs (with_line xs) (kept (length xs) (greatest_reading xs) (parabola_of xs)) else with_line xs
+with_parabola xs =
+    if nat_le 3 (length xs)
+    then better xs (with_line xs) (kept (length xs) (greatest_reading xs) (parabola_of xs))
+    else with_line xs
 
 -- the curve of the fit: the least miss, the least degree on a tie
 abbrev pub best_curve : ℕ → List ℤ → Curve

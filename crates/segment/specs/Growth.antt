@@ -43,4 +43,5 @@ NoneAreMade = (n : ℕ) → made n n ≡ 0
 abbrev pub tree_by : (Range → Seg) → Plan → List ℤ → SegTree
 tree_by f (leaf start len) xs = tip (f (record { start = start; len = len })) xs
 tree_by f (fork start len left right) xs =
-    node (f (record { start = start; len = len })) (tree_by f left (take (width left) xs)) (tree_by f right (drop (width left) xs))
+    node (f (record { start = start; len = len })) (tree_by f left (take (width left) xs))
+    (tree_by f right (drop (width left) xs))

@@ -51,11 +51,22 @@ pub record IsBounded (p : Curve) (n d : ℕ) : Type 0 where
 
 -- the same as a test
 abbrev pub is_bounded : Curve → ℕ → ℕ → Bool
-is_bounded p n d = nat_le (unsigned_abs p.a) (coefficient_bound d) && nat_le (unsigned_abs p.b * n) (coefficient_bound d) && nat_le (unsigned_abs p.c * (n * n)) (coefficient_bound d)
+is_bounded p n d = nat_le (unsigned_abs p.a) (coefficient_bound d)
+    && nat_le (unsigned_abs p.b * n) (coefficient_bound d)
+    && nat_le (unsigned_abs p.c * (n * n)) (coefficient_bound d)
 
 -- the segment with this curve that is true of the readings
 abbrev pub seg_of : ℕ → Curve → List ℤ → Seg
-seg_of start p xs = record { start = start; len = length xs; a = p.a; b = p.b; c = p.c; l = miss p xs; d = greatest_reading xs; f = greatest_estimate p (length xs) }
+seg_of start p xs = record {
+  start = start;
+  len = length xs;
+  a = p.a;
+  b = p.b;
+  c = p.c;
+  l = miss p xs;
+  d = greatest_reading xs;
+  f = greatest_estimate p (length xs);
+}
 
 abbrev pub curve_of : Seg → Curve
 curve_of s = record { a = s.a; b = s.b; c = s.c }
@@ -67,7 +78,16 @@ pub record IsTrueOf (xs : List ℤ) (s : Seg) : Type 0 where
 
 -- the exact segment of one reading
 abbrev pub unit_seg : ℕ → ℤ → Seg
-unit_seg start x = record { start = start; len = 1; a = pos unit *ℤ x; b = pos 0; c = pos 0; l = 0; d = unsigned_abs x; f = unit * unsigned_abs x }
+unit_seg start x = record {
+  start = start;
+  len = 1;
+  a = pos unit *ℤ x;
+  b = pos 0;
+  c = pos 0;
+  l = 0;
+  d = unsigned_abs x;
+  f = unit * unsigned_abs x;
+}
 
 -- what is known of a segment of a series whose readings have at most the magnitude root_d
 pub record IsSane (s : Seg) (root_d : ℕ) : Type 0 where
@@ -79,4 +99,5 @@ pub record IsSane (s : Seg) (root_d : ℕ) : Type 0 where
 
 -- every true segment of a part of a series is sane for the greatest magnitude of the series
 abbrev pub EveryTrueIsSane : Type 0
-EveryTrueIsSane = (xs : List ℤ) (from len : ℕ) (s : Seg) → AreReadings xs → IsTrueOf (take len (drop from xs)) s → IsSane s (greatest_reading xs)
+EveryTrueIsSane = (xs : List ℤ) (from len : ℕ) (s : Seg) → AreReadings xs → IsTrueOf (take len (drop from xs)) s
+    → IsSane s (greatest_reading xs)

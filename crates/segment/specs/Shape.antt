@@ -70,4 +70,5 @@ ShapeIsCounted = (n : ℕ) → length (shape n) ≡ node_count n
 
 -- a range that is a whole room stays when readings are added
 abbrev pub WholeRoomsStay : Type 0
-WholeRoomsStay = (n more level : ℕ) (r : Range) → Contains (shape n) r → r.len ≡ room level → Contains (shape (n + more)) r
+WholeRoomsStay = (n more level : ℕ) (r : Range) → Contains (shape n) r → r.len ≡ room level
+    → Contains (shape (n + more)) r

@@ -215,7 +215,8 @@ fn straight_moment(xs: &[i32], bend: i128) -> i128
     less(sum, bend, cubes)
 }
 
-/// The curve with this bend through `n` values, by the sum of the values and of their moments, where it keeps the bound.
+/// The curve with this bend through `n` values, by the sum of the values and of their moments, where it keeps the
+/// bound.
 fn through(n: usize, sum: i128, moment: i128, bend: i64, d: u64) -> Option<Curve>
     requires some { 2 ≤ n }
     requires few { n ≤ 2 ^ 20 }

@@ -79,7 +79,8 @@ pub trait Nodes {
         requires { series < length (lengths self.old) }
 
         ensures none { IfOk result (λ o. IsNone o ↔ (slice_index (lengths self.old) series ≡ 0)) }
-        ensures stands { IfOk result (λ o. IfSome o (λ r. stands self.new source.new r.0 (root_place series (slice_index (lengths self.old) series)))) }
+        ensures stands { IfOk result (λ o. IfSome o (λ r. stands self.new source.new r.0
+            (root_place series (slice_index (lengths self.old) series)))) }
         ensures starts { IfOk result (λ o. IfSome o (λ r. r.1.start ≡ 0)) }
         ensures spans { IfOk result (λ o. IfSome o (λ r. r.1.len ≡ slice_index (lengths self.old) series)) }
         ensures sane { IfOk result (λ o. IfSome o (λ r. IsSane r.1 r.1.d)) }
@@ -91,8 +92,10 @@ pub trait Nodes {
         ensures bad { result ≡ Err Bad → (forest : Forest) → means self.old source.old forest → ⊥ }
 
         ensures handed { HandsOut 56 (handed source.old) (handed source.new) }
-        ensures handed_known { (g : Seg) → known_root (roots self.old) series ≡ Some g → HandsOut 0 (handed source.old) (handed source.new) }
-        ensures handed_empty { slice_index (lengths self.old) series ≡ 0 → HandsOut 0 (handed source.old) (handed source.new) }
+        ensures handed_known { (g : Seg) → known_root (roots self.old) series ≡ Some g
+            → HandsOut 0 (handed source.old) (handed source.new) }
+        ensures handed_empty { slice_index (lengths self.old) series ≡ 0
+            → HandsOut 0 (handed source.old) (handed source.new) }
 
         ensures means { (forest : Forest) → means self.old source.old forest ↔ means self.new source.new forest }
         ensures later { faults source.old ≤ faults source.new }
@@ -109,27 +112,29 @@ pub trait Nodes {
     ) -> Result<Children<Self::Id>, NodeErr>
         requires { (p : Place) × stands self.old source.old id p × (16 < p.range.len) }
 
-        ensures left { IfOk result (λ c. (p : Place) (s : ℕ) → stands self.old source.old id p → IsSplit p.range.len s
-            → stands self.new source.new c.left (left_of p s)) }
-        ensures left_starts { IfOk result (λ c. (p : Place) (s : ℕ) → stands self.old source.old id p → IsSplit p.range.len s
-            → c.left_seg.start ≡ p.range.start) }
-        ensures left_spans { IfOk result (λ c. (p : Place) (s : ℕ) → stands self.old source.old id p → IsSplit p.range.len s
-            → c.left_seg.len ≡ s) }
+        ensures left { IfOk result (λ c. (p : Place) (s : ℕ) → stands self.old source.old id p
+            → IsSplit p.range.len s → stands self.new source.new c.left (left_of p s)) }
+        ensures left_starts { IfOk result (λ c. (p : Place) (s : ℕ) → stands self.old source.old id p
+            → IsSplit p.range.len s → c.left_seg.start ≡ p.range.start) }
+        ensures left_spans { IfOk result (λ c. (p : Place) (s : ℕ) → stands self.old source.old id p
+            → IsSplit p.range.len s → c.left_seg.len ≡ s) }
         ensures left_sane { IfOk result (λ c. (p : Place) (g : Seg) → stands self.old source.old id p
             → known_root (roots self.old) p.series ≡ Some g → IsSane c.left_seg g.d) }
-        ensures left_seg { IfOk result (λ c. (p : Place) (s : ℕ) (forest : Forest) → stands self.old source.old id p
-            → IsSplit p.range.len s → means self.old source.old forest → seg_at forest (left_of p s) ≡ Some c.left_seg) }
+        ensures left_seg { IfOk result (λ c. (p : Place) (s : ℕ) (forest : Forest)
+            → stands self.old source.old id p → IsSplit p.range.len s → means self.old source.old forest
+            → seg_at forest (left_of p s) ≡ Some c.left_seg) }
 
-        ensures right { IfOk result (λ c. (p : Place) (s : ℕ) → stands self.old source.old id p → IsSplit p.range.len s
-            → stands self.new source.new c.right (right_of p s)) }
-        ensures right_starts { IfOk result (λ c. (p : Place) (s : ℕ) → stands self.old source.old id p → IsSplit p.range.len s
-            → c.right_seg.start ≡ p.range.start + s) }
-        ensures right_spans { IfOk result (λ c. (p : Place) (s : ℕ) → stands self.old source.old id p → IsSplit p.range.len s
-            → c.right_seg.len ≡ p.range.len - s) }
+        ensures right { IfOk result (λ c. (p : Place) (s : ℕ) → stands self.old source.old id p
+            → IsSplit p.range.len s → stands self.new source.new c.right (right_of p s)) }
+        ensures right_starts { IfOk result (λ c. (p : Place) (s : ℕ) → stands self.old source.old id p
+            → IsSplit p.range.len s → c.right_seg.start ≡ p.range.start + s) }
+        ensures right_spans { IfOk result (λ c. (p : Place) (s : ℕ) → stands self.old source.old id p
+            → IsSplit p.range.len s → c.right_seg.len ≡ p.range.len - s) }
         ensures right_sane { IfOk result (λ c. (p : Place) (g : Seg) → stands self.old source.old id p
             → known_root (roots self.old) p.series ≡ Some g → IsSane c.right_seg g.d) }
-        ensures right_seg { IfOk result (λ c. (p : Place) (s : ℕ) (forest : Forest) → stands self.old source.old id p
-            → IsSplit p.range.len s → means self.old source.old forest → seg_at forest (right_of p s) ≡ Some c.right_seg) }
+        ensures right_seg { IfOk result (λ c. (p : Place) (s : ℕ) (forest : Forest)
+            → stands self.old source.old id p → IsSplit p.range.len s → means self.old source.old forest
+            → seg_at forest (right_of p s) ≡ Some c.right_seg) }
 
         ensures failed { result ≡ Err Failed → Rose (faults source.old) (faults source.new) }
         ensures bad { result ≡ Err Bad → (forest : Forest) → means self.old source.old forest → ⊥ }
@@ -154,7 +159,8 @@ pub trait Nodes {
 
         ensures len { IfOk result (λ n. (p : Place) → stands self.old source.old id p → n ≡ p.range.len) }
         ensures small { IfOk result (λ n. (p : Place) (g : Seg) (i : ℕ) → stands self.old source.old id p
-            → known_root (roots self.old) p.series ≡ Some g → i < n → unsigned_abs (reading into.new i) ≤ g.d) }
+            → known_root (roots self.old) p.series ≡ Some g → i < n
+            → unsigned_abs (reading into.new i) ≤ g.d) }
         ensures readings { IfOk result (λ n. (p : Place) (forest : Forest) → stands self.old source.old id p
             → means self.old source.old forest → take n into.new ≡ readings_at forest p) }
         ensures err { OnErr result (into.new ≡ into.old) }
@@ -162,7 +168,8 @@ pub trait Nodes {
         ensures failed { result ≡ Err Failed → Rose (faults source.old) (faults source.new) }
         ensures bad { result ≡ Err Bad → (forest : Forest) → means self.old source.old forest → ⊥ }
 
-        ensures handed { (p : Place) → stands self.old source.old id p → HandsOut (4 * p.range.len) (handed source.old) (handed source.new) }
+        ensures handed { (p : Place) → stands self.old source.old id p
+            → HandsOut (4 * p.range.len) (handed source.old) (handed source.new) }
 
         ensures means { (forest : Forest) → means self.old source.old forest ↔ means self.new source.new forest }
         ensures later { faults source.old ≤ faults source.new }
@@ -172,8 +179,10 @@ pub trait Nodes {
         ensures lengths { lengths self.new ≡ lengths self.old };
 
     /// The trees are those of series of these lengths.
-    ghost fits: { (nodes : Self) (source : Self.Source) (forest : Forest) → means nodes source forest → IsForest (lengths nodes) forest };
+    ghost fits: { (nodes : Self) (source : Self.Source) (forest : Forest) → means nodes source forest
+        → IsForest (lengths nodes) forest };
 
     /// An id stands for a place in the shape of a series whose root is known.
-    ghost placed: { (nodes : Self) (source : Self.Source) (i : Self.Id) (p : Place) → stands nodes source i p → IsPlaceOf (lengths nodes) (roots nodes) p };
+    ghost placed: { (nodes : Self) (source : Self.Source) (i : Self.Id) (p : Place) → stands nodes source i p
+        → IsPlaceOf (lengths nodes) (roots nodes) p };
 }

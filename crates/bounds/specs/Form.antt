@@ -14,8 +14,8 @@ pub record Use : Type 0 where
   pub at : ℤ
   pub weight : ℕ
 
--- the estimate is in units, as many times as the rank says; the value is at most `most` in magnitude, and the estimate at
--- most `most_estimate`
+-- the estimate is in units, as many times as the rank says; the value is at most `most` in magnitude, and the estimate
+-- at most `most_estimate`
 pub record Form : Type 0 where
   pub rank : ℕ
   pub estimate : ℤ

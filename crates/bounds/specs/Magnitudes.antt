@@ -104,7 +104,7 @@ pub record IsSumWithin (D : List ℕ → ℕ) (n : ℕ) (es : List Entry) (t : T
 -- over sane segments the numbers of every series, of its local forms and of its sums are within its magnitudes
 pub record NumbersAreWithin : Type 0 where
   pub series : (D : List ℕ → ℕ) (t : Term) → HasMagnitudes D t
-  pub forms : (D : List ℕ → ℕ) (n : ℕ) (C : List ℕ → List Seg) (t : Term) (i : ℤ) → OfEachName (HasSaneSegs D n C) t
-      → IsFormWithin D n C t i
+  pub forms : (D : List ℕ → ℕ) (n : ℕ) (C : List ℕ → List Seg) (t : Term) (i : ℤ)
+      → OfEachName (HasSaneSegs D n C) t → IsFormWithin D n C t i
   pub sums : (D : List ℕ → ℕ) (n : ℕ) (es : List Entry) (t : Term) (l : ℤ) (m : ℕ) → AreDistinct es →
       OfEachName (HasSaneSegs D n (segs_of es)) t → m ≤ n → IsSumWithin D n es t l m

@@ -48,5 +48,5 @@ IsSmall (shift u k) gs = IsSmall u gs
 
 -- over sane segments, where the series and its parts are in range, no number of a local form passes 2^125
 abbrev pub FormsAreSmall : Type 0
-FormsAreSmall = (D : List ℕ → ℕ) (n : ℕ) (C : List ℕ → List Seg) (t : Term) (i : ℤ) → 1 ≤ n → rank_of t ≤ 3
-    → InRange D n t → OfEachName (HasSaneSegs D n C) t → IsSmall t (reads C t i)
+FormsAreSmall = (D : List ℕ → ℕ) (n : ℕ) (C : List ℕ → List Seg) (t : Term) (i : ℤ)
+    → 1 ≤ n → rank_of t ≤ 3 → InRange D n t → OfEachName (HasSaneSegs D n C) t → IsSmall t (reads C t i)

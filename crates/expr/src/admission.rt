@@ -138,7 +138,8 @@ fn test_domains(q: &Query, facts: &[Fact], first: u32) -> Result<u32, AdmitErr>
         first_refusal (domain_rule (facts_of facts.now)) first (sums_of (query_term_of q.now)) ≡ None) }
     ensures next { IfOk result (λ next. next ≡ first + length (sums_of (query_term_of q.now))) }
     ensures refused { IfErr result (λ e.
-        first_refusal (domain_rule (facts_of facts.now)) first (sums_of (query_term_of q.now)) ≡ Some (refusal_by e)) }
+        first_refusal (domain_rule (facts_of facts.now)) first (sums_of (query_term_of q.now))
+        ≡ Some (refusal_by e)) }
 {
     match q {
         Query::Number(_) => Ok(first),
@@ -224,7 +225,8 @@ fn test_bounds(q: &Query, facts: &[Fact], first: u32) -> Result<Tested, AdmitErr
     ensures bound { IfOk result (λ tested. tested.bound ≡ bound_of (facts_of facts.now) (query_term_of q.now)) }
     ensures few { IfOk result (λ tested. tested.bound ≤ range_limit) }
     ensures refused { IfErr result (λ e.
-        first_refusal (range_rule (facts_of facts.now)) first (nodes_of (query_term_of q.now)) ≡ Some (refusal_by e)) }
+        first_refusal (range_rule (facts_of facts.now)) first (nodes_of (query_term_of q.now))
+        ≡ Some (refusal_by e)) }
 {
     match q {
         Query::Number(v) => {

@@ -66,7 +66,8 @@ fn bounded(rank: u32, units: u128, n: u64) -> Option<Size>
 fn constant_size(v: i128, n: u64) -> Option<Size>
     requires { 1 ≤ n }
     ensures { MatchOption result (range_limit < n * (2 * unsigned_abs v))
-        (λ size. (size.rank ≡ 0) × (size.units ≡ 2 * unsigned_abs v) × (n * (2 * unsigned_abs v) ≤ range_limit)) }
+        (λ size. (size.rank ≡ 0) × (size.units ≡ 2 * unsigned_abs v)
+        × (n * (2 * unsigned_abs v) ≤ range_limit)) }
 {
     bounded(0, v.unsigned_abs().checked_mul(2)?, n)
 }

@@ -52,7 +52,8 @@ ParsedIsParser = IsParser parsed
 
 -- and no other, since a text comes to one thing alone
 abbrev pub ParsesAlone : Type 0
-ParsesAlone = (text : List ℕ) (r other : Result QueryTerm ParseErr) → Parses text r → Parses text other → other ≡ r
+ParsesAlone = (text : List ℕ) (r other : Result QueryTerm ParseErr) → Parses text r → Parses text other
+    → other ≡ r
 
 -- no text comes to want of memory
 abbrev pub ParsesWithoutMemory : Type 0

@@ -29,8 +29,8 @@ IsNamedQuery (mul p q) = IsNamedQuery p × IsNamedQuery q
 -- the grammar gives a query for its canonical text, where that is not too long
 abbrev pub CanonicalIsText : Type 0
 CanonicalIsText =
-    (q : QueryTerm) → IsNamedQuery q → IsNearQuery q → HasSmallNumbers q → length (canonical_text q) ≤ most_text
-    → IsTextOf (canonical_text q) q
+    (q : QueryTerm) → IsNamedQuery q → IsNearQuery q → HasSmallNumbers q
+    → length (canonical_text q) ≤ most_text → IsTextOf (canonical_text q) q
 
 -- and it is parsed as that query, where the query is within its limits
 abbrev pub CanonicalIsParsed : Type 0
@@ -40,7 +40,8 @@ CanonicalIsParsed =
 
 -- no text of a query is shorter than its canonical text
 abbrev pub CanonicalIsShortest : Type 0
-CanonicalIsShortest = (text : List ℕ) (q : QueryTerm) → IsTextOf text q → length (canonical_text q) ≤ length text
+CanonicalIsShortest = (text : List ℕ) (q : QueryTerm) → IsTextOf text q
+    → length (canonical_text q) ≤ length text
 
 -- a text that is parsed as a query is a text of it
 abbrev pub ParsedIsText : Type 0

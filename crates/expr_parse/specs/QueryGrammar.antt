@@ -10,22 +10,23 @@ mutual
   -- query = term { ("+" | "-") term }, from the left
   pub data IsQuery : List Lexeme → List Lexeme → QueryTerm → Type 0 where
     product : {ts rest : List Lexeme} {q : QueryTerm} → IsProduct ts rest q → IsQuery ts rest q
-    plus_product : {ts mid rest : List Lexeme} {p q : QueryTerm} → IsQuery ts (Plus ∷ mid) p → IsProduct mid rest q
-        → IsQuery ts rest (add p q)
-    minus_product : {ts mid rest : List Lexeme} {p q : QueryTerm} → IsQuery ts (Minus ∷ mid) p → IsProduct mid rest q
-        → IsQuery ts rest (sub p q)
+    plus_product : {ts mid rest : List Lexeme} {p q : QueryTerm} → IsQuery ts (Plus ∷ mid) p
+        → IsProduct mid rest q → IsQuery ts rest (add p q)
+    minus_product : {ts mid rest : List Lexeme} {p q : QueryTerm} → IsQuery ts (Minus ∷ mid) p
+        → IsProduct mid rest q → IsQuery ts rest (sub p q)
 
   -- term = factor { "*" factor }, from the left
   pub data IsProduct : List Lexeme → List Lexeme → QueryTerm → Type 0 where
     factor : {ts rest : List Lexeme} {q : QueryTerm} → IsFactor ts rest q → IsProduct ts rest q
-    times_factor : {ts mid rest : List Lexeme} {p q : QueryTerm} → IsProduct ts (Times ∷ mid) p → IsFactor mid rest q
-        → IsProduct ts rest (mul p q)
+    times_factor : {ts mid rest : List Lexeme} {p q : QueryTerm} → IsProduct ts (Times ∷ mid) p
+        → IsFactor mid rest q → IsProduct ts rest (mul p q)
 
   -- factor = number | "-" number | "(" query ")" | "sum" "(" series [ "," place "," place ] ")"
   --        | "varnum" "(" series "," place "," place ")" | "covnum" "(" series "," series "," place "," place ")"
   pub data IsFactor : List Lexeme → List Lexeme → QueryTerm → Type 0 where
     whole : {ts rest : List Lexeme} {v : ℤ} → IsWhole ts rest v → IsFactor ts rest (number v)
-    grouped : {ts rest : List Lexeme} {q : QueryTerm} → IsQuery ts (Close ∷ rest) q → IsFactor (Open ∷ ts) rest q
+    grouped : {ts rest : List Lexeme} {q : QueryTerm} → IsQuery ts (Close ∷ rest) q
+        → IsFactor (Open ∷ ts) rest q
     sum_of : {ts rest : List Lexeme} {t : Term} → IsSeries ts (Close ∷ rest) t
         → IsFactor (Sum ∷ Open ∷ ts) rest (sum t None)
     sum_over : {ts mid rest : List Lexeme} {t : Term} {b : Range} → IsSeries ts mid t → IsRange mid rest b

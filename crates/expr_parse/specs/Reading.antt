@@ -75,9 +75,10 @@ step VarNum rest (query ∷ es) =
     (rest (open_sign ∷ series ∷ comma_sign ∷ place ∷ comma_sign ∷ place ∷ close_sign ∷ more_query ∷ es))
 step CovNum rest (query ∷ es) =
     option_map
-    (λ p. ((t.covariance (series_tree p.0) (series_tree p.1.0) (range_from p.1.1.0 p.1.1.1.0), p.1.1.1.1.0), p.1.1.1.1.1))
-    (rest (open_sign ∷ series ∷ comma_sign ∷ series ∷ comma_sign ∷ place ∷ comma_sign ∷ place ∷ close_sign
-    ∷ more_query ∷ es))
+    (λ p. ((t.covariance (series_tree p.0) (series_tree p.1.0) (range_from p.1.1.0 p.1.1.1.0), p.1.1.1.1.0),
+        p.1.1.1.1.1))
+    (rest (open_sign ∷ series ∷ comma_sign ∷ series ∷ comma_sign ∷ place ∷ comma_sign ∷ place
+    ∷ close_sign ∷ more_query ∷ es))
 step Plus rest (more_query ∷ es) = option_map (λ p. (plus p.0.0 p.0.1, p.1)) (rest (query ∷ es))
 step Minus rest (more_query ∷ es) = option_map (λ p. (minus p.0.0 p.0.1, p.1)) (rest (query ∷ es))
 step Times rest (more_query ∷ es) = option_map (λ p. (times p.0.0 p.0.1, p.1)) (rest (query ∷ es))
@@ -99,7 +100,8 @@ step Minus rest (more_series ∷ es) = option_map (λ p. (minus p.0.0 p.0.1, p.1
 step Times rest (more_series ∷ es) = option_map (λ p. (times p.0.0 p.0.1, p.1)) (rest (series ∷ es))
 step t rest (more_series ∷ es) = option_map (λ p. (end, p)) (step t rest es)
 step Comma rest (ends ∷ es) =
-    option_map (λ p. (Some (range_from p.0 p.1.0), p.1.1)) (rest (place ∷ comma_sign ∷ place ∷ close_sign ∷ es))
+    option_map (λ p. (Some (range_from p.0 p.1.0), p.1.1))
+    (rest (place ∷ comma_sign ∷ place ∷ close_sign ∷ es))
 step Close rest (ends ∷ es) = option_map (λ p. (None, p)) (rest es)
 step (Number n) rest (whole ∷ es) = option_map (λ p. (pos n, p)) (rest es)
 step Minus rest (whole ∷ es) = option_map (λ p. (neg_ℤ (pos p.0), p.1)) (rest (number ∷ es))

@@ -104,7 +104,8 @@ fn write_ends(alloc: Global, into: &mut Vec<u8>, bounds: Option<Bounds>) -> Resu
 }
 
 fn write_constant(alloc: Global, into: &mut Vec<u8>, v: i128, bounds: Bounds) -> Result<(), Memory>
-    ensures { OnOk result (into.new.items ≡ into.old.items ++ series_text Level.OfSum (constant v bounds.l bounds.r)) }
+    ensures { OnOk result (into.new.items
+        ≡ into.old.items ++ series_text Level.OfSum (constant v bounds.l bounds.r)) }
 {
     put(into, "const(")?;
     write_i128(alloc, into, v)?;

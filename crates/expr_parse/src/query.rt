@@ -41,7 +41,8 @@ fn read_variance<'a>(alloc: Global, ts: &'a [Lexeme]) -> Result<(Query, &'a [Lex
     ensures found { IfOk result (λ r. IsFactor (Lexeme.VarNum ∷ ts.now) r.1.now (query_term_of r.0)) }
     ensures shorter { IfOk result (λ r. length r.1.now < length ts.now) }
     ensures stuck { IfErr result (λ e.
-        IsStuck (open_sign ∷ series ∷ comma_sign ∷ place ∷ comma_sign ∷ place ∷ close_sign ∷ []) ts.now e) }
+        IsStuck (open_sign ∷ series ∷ comma_sign ∷ place ∷ comma_sign ∷ place ∷ close_sign ∷ [])
+        ts.now e) }
 {
     let first = open(ts)?;
     let (t, mid) = read_series(alloc, first)?;
@@ -54,7 +55,8 @@ fn read_covariance<'a>(alloc: Global, ts: &'a [Lexeme]) -> Result<(Query, &'a [L
     ensures found { IfOk result (λ r. IsFactor (Lexeme.CovNum ∷ ts.now) r.1.now (query_term_of r.0)) }
     ensures shorter { IfOk result (λ r. length r.1.now < length ts.now) }
     ensures stuck { IfErr result (λ e.
-        IsStuck (open_sign ∷ series ∷ comma_sign ∷ series ∷ comma_sign ∷ place ∷ comma_sign ∷ place ∷ close_sign ∷ [])
+        IsStuck (open_sign ∷ series ∷ comma_sign ∷ series ∷ comma_sign ∷ place ∷ comma_sign ∷ place
+        ∷ close_sign ∷ [])
         ts.now e) }
 {
     let first = open(ts)?;

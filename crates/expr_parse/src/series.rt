@@ -123,7 +123,8 @@ pub(crate) fn comma(ts: &[Lexeme]) -> Result<&[Lexeme], Stuck>
 pub(crate) fn read_range(ts: &[Lexeme]) -> Result<(Bounds, &[Lexeme]), Stuck>
     ensures found { IfOk result (λ r. IsRange ts.now r.1.now (range_of r.0)) }
     ensures shorter { IfOk result (λ r. length r.1.now < length ts.now) }
-    ensures stuck { IfErr result (λ e. IsStuck (comma_sign ∷ place ∷ comma_sign ∷ place ∷ close_sign ∷ []) ts.now e) }
+    ensures stuck { IfErr result (λ e.
+        IsStuck (comma_sign ∷ place ∷ comma_sign ∷ place ∷ close_sign ∷ []) ts.now e) }
 {
     let first = comma(ts)?;
     let (l, mid) = read_place(first)?;
@@ -138,7 +139,8 @@ fn read_constant(ts: &[Lexeme]) -> Result<(Series, &[Lexeme]), Stuck>
     ensures found { IfOk result (λ r. IsFactor (Lexeme.Const ∷ ts.now) r.1.now (term_of r.0)) }
     ensures shorter { IfOk result (λ r. length r.1.now < length ts.now) }
     ensures stuck { IfErr result (λ e.
-        IsStuck (open_sign ∷ whole ∷ comma_sign ∷ place ∷ comma_sign ∷ place ∷ close_sign ∷ []) ts.now e) }
+        IsStuck (open_sign ∷ whole ∷ comma_sign ∷ place ∷ comma_sign ∷ place ∷ close_sign ∷ [])
+        ts.now e) }
 {
     let first = open(ts)?;
     let (v, mid) = read_whole(first)?;
@@ -265,7 +267,8 @@ fn read_factor<'a>(alloc: Global, ts: &'a [Lexeme]) -> Result<(Series, &'a [Lexe
 fn read_shift<'a>(alloc: Global, ts: &'a [Lexeme]) -> Result<(Series, &'a [Lexeme]), Stuck>
     ensures found { IfOk result (λ r. IsFactor (Lexeme.Shift ∷ ts.now) r.1.now (term_of r.0)) }
     ensures shorter { IfOk result (λ r. length r.1.now < length ts.now) }
-    ensures stuck { IfErr result (λ e. IsStuck (open_sign ∷ series ∷ comma_sign ∷ place ∷ close_sign ∷ []) ts.now e) }
+    ensures stuck { IfErr result (λ e.
+        IsStuck (open_sign ∷ series ∷ comma_sign ∷ place ∷ close_sign ∷ []) ts.now e) }
 {
     let first = open(ts)?;
     let (t, mid) = read_series(alloc, first)?;

@@ -81,7 +81,8 @@ fn by_lexemes(
     ensures grammar { IfOk result (λ q. IsQuery said.now [] (query_term_of q)) }
     ensures limits { IfOk result (λ q. IsWithinLimits (query_term_of q)) }
     ensures nodes { IfOk result (λ q. nodes_in (query_term_of q) ≤ most_text) }
-    ensures refused { IfErr result (λ e. (e ≡ ParseErr.Memory) ⊎ (by_lexemes text.now tokens.now said.now ≡ Err e)) }
+    ensures refused { IfErr result (λ e. (e ≡ ParseErr.Memory)
+        ⊎ (by_lexemes text.now tokens.now said.now ≡ Err e)) }
     ensures outside { IfErr result (λ e. IsOutside e said.now) }
 {
     if is_nested(said) {

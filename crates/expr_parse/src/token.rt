@@ -198,7 +198,8 @@ pub(crate) fn scan(alloc: Global, text: &[u8]) -> Result<Scanned, ParseErr>
     ensures lexemes { IfOk result (λ s. s.lexemes.items ≡ map (lexeme_of text.now) s.tokens.items) }
     ensures order { IfOk result (λ s. AreInOrder 0 s.tokens.items (length text.now)) }
     ensures refused { IfErr result (λ e.
-        (e ≡ ParseErr.Memory) ⊎ ((place : ℕ) × (e ≡ ParseErr.At place) × (tokens_of text.now ≡ Err place))) }
+        (e ≡ ParseErr.Memory)
+        ⊎ ((place : ℕ) × (e ≡ ParseErr.At place) × (tokens_of text.now ≡ Err place))) }
 {
     let mut out = Vec::new(alloc);
     let mut said = Vec::new(alloc);

@@ -104,7 +104,8 @@ impl Iv {
         requires { most_of self * most_of o ≤ 2 ^ 126 }
         ensures ends { result ≡ product_of self o }
         ensures holds { (x y : ℤ) → Has self x → Has o y → Has result (x *ℤ y) }
-        ensures least { (z : Interval) → ((x y : ℤ) → Has self x → Has o y → Has z (x *ℤ y)) → IsWithin result z }
+        ensures least { (z : Interval) → ((x y : ℤ) → Has self x → Has o y → Has z (x *ℤ y))
+            → IsWithin result z }
     {
         let a = times(self.lo, o.lo);
         let b = times(self.lo, o.hi);

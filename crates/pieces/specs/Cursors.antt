@@ -15,17 +15,19 @@ EndsBehind spans occ at len s = pos (end_of (span_at spans s)) ≡ ((at +ℤ pos
 
 -- the first k occurrences stay in the segments of their cursors, on as many positions as all of them can, and `most` at
 -- most
-pub record IsStepped (spans : List Span) (occs : List Occ) (at : ℤ) (most : ℕ) (before cursors : List ℕ) (len k : ℕ)
-    : Type 0 where
+pub record IsStepped (spans : List Span) (occs : List Occ) (at : ℤ) (most : ℕ) (before cursors : List ℕ)
+    (len k : ℕ) : Type 0 where
   pub count : length cursors ≡ length occs
   pub some : 1 ≤ len
   pub within : len ≤ most
   pub stay : (o : ℕ) → o < k → StaysIn spans (occ_at occs o) at len (slice_index cursors o)
   pub rest : (o : ℕ) → k ≤ o → slice_index cursors o ≡ slice_index before o
-  pub ends : (len ≡ most) ⊎ ((o : ℕ) × (o < k) × EndsBehind spans (occ_at occs o) at len (slice_index cursors o))
+  pub ends : (len ≡ most)
+      ⊎ ((o : ℕ) × (o < k) × EndsBehind spans (occ_at occs o) at len (slice_index cursors o))
 
 -- each cursor is at the segment that its occurrence reads, or before it
 pub record AreBehind (spans : List Span) (occs : List Occ) (at : ℤ) (cursors : List ℕ) : Type 0 where
   pub count : length cursors ≡ length occs
   pub from : (o : ℕ) → o < length occs → (occ_at occs o).from ≤ slice_index cursors o
-  pub behind : (o : ℕ) → o < length occs → (s : ℕ) → IsReadAt spans (occ_at occs o) at s → slice_index cursors o ≤ s
+  pub behind : (o : ℕ) → o < length occs → (s : ℕ) → IsReadAt spans (occ_at occs o) at s
+      → slice_index cursors o ≤ s

@@ -38,7 +38,8 @@ first_of occ = occ.from
 pub record IsWithinSpans (spans : List Span) (occ : Occ) : Type 0 where
   pub ordered : occ.from ≤ occ.to
   pub within : occ.to ≤ length spans
-  pub touch : (s : ℕ) → occ.from ≤ s → s + 1 < occ.to → end_of (span_at spans s) ≡ (span_at spans (s + 1)).start
+  pub touch : (s : ℕ) → occ.from ≤ s → s + 1 < occ.to
+      → end_of (span_at spans s) ≡ (span_at spans (s + 1)).start
   pub small : (s : ℕ) → occ.from ≤ s → s < occ.to → end_of (span_at spans s) ≤ most_readings
 
 -- so are those of all occurrences

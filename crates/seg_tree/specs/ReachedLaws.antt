@@ -15,7 +15,8 @@ use Rattle.seg_tree.specs.Linked.{Places, node_at, tree_at}
 use Rattle.seg_tree.specs.Reached.{Reached, forest_of, len_of, lengths_of, roots_of, Means, Stands}
 use Rattle.seg_tree.specs.Trees.{IsTreeAt, IsTreeOf, value_at, value_of}
 
-series_at : (nodes : Places) (root : Option ℕ) (n : ℕ) → IsTreeAt nodes root n → IsSeriesTree n (value_at nodes root n)
+series_at : (nodes : Places) (root : Option ℕ) (n : ℕ) → IsTreeAt nodes root n
+    → IsSeriesTree n (value_at nodes root n)
 series_at nodes None n h = h
 series_at nodes (Some p) n h = h.1
 
@@ -50,11 +51,12 @@ tree-found nodes (x ∷ xs) zero t all e = (
   tree-over x.n (value_of nodes x) t
       (series_at nodes x.root x.n (All-head (IsTreeOf nodes) x xs all)) e,
 )
-tree-found nodes (x ∷ xs) (suc k) t all e = let rest = tree-found nodes xs k t (All-tail (IsTreeOf nodes) x xs all) e in
+tree-found nodes (x ∷ xs) (suc k) t all e =
+    let rest = tree-found nodes xs k t (All-tail (IsTreeOf nodes) x xs all) e in
     (omega (arith, rest.0), rest.1)
 
-pub has_tree : (s : Reached) (k : ℕ) (t : SegTree) → All (IsTreeOf s.nodes) s.trees → tree_in (forest_of s) k ≡ Some t
-    → HasTree s k t
+pub has_tree : (s : Reached) (k : ℕ) (t : SegTree) → All (IsTreeOf s.nodes) s.trees
+    → tree_in (forest_of s) k ≡ Some t → HasTree s k t
 has_tree s k t all e =
     let found = tree-found s.nodes s.trees k t all e in
     record {
@@ -68,7 +70,8 @@ root_of-tree_at nodes id (leaf s n) = refl
 root_of-tree_at nodes id (fork s n l r) = refl
 
 pub stands_over : (s : Reached) (id : ℕ) (p : Place) → (h : Stands s id p)
-    → IsPartOver (get_or (lengths_of s) p.series 0) h.tree (tree_at s.nodes id (plan p.range.start p.range.len)) p.range
+    → IsPartOver (get_or (lengths_of s) p.series 0) h.tree
+    (tree_at s.nodes id (plan p.range.start p.range.len)) p.range
 stands_over s id p h = part-over (get_or (lengths_of s) p.series 0) h.tree
     (tree_at s.nodes id (plan p.range.start p.range.len)) p.range
     (has_tree s p.series h.tree h.trees h.found).over h.at.part h.at.shaped

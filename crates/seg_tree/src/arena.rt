@@ -128,8 +128,10 @@ impl Arena {
             (all_segs (value_of self.old.nodes tree))) (shape (tree.n + length xs.now))) }
 
         ensures extends { Extends self.old.nodes self.new.nodes }
-        ensures count { OnOk result (used self.new.nodes ≡ used self.old.nodes + made tree.n (tree.n + length xs.now)) }
-        ensures few { OnOk result (used self.new.nodes ≤ used self.old.nodes + (2 * ((length xs.now + 15) / 16) + 44)) }
+        ensures count { OnOk result (used self.new.nodes
+            ≡ used self.old.nodes + made tree.n (tree.n + length xs.now)) }
+        ensures few { OnOk result (used self.new.nodes
+            ≤ used self.old.nodes + (2 * ((length xs.now + 15) / 16) + 44)) }
         ensures none { length xs.now ≡ 0 → OnOk result (used self.new.nodes ≡ used self.old.nodes) }
         ensures degree { self.new.degree ≡ self.old.degree }
         ensures limit { self.new.limit ≡ self.old.limit }

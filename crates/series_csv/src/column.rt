@@ -144,7 +144,8 @@ pub fn read_column(
 
     // The answer is that of the definition, but for want of memory.
     ensures ok { IfOk result (λ v. column_of bytes.now column.now scale before ≡ Ok v.items) }
-    ensures refused { IfErr result (λ e. (e ≡ CsvErr.Memory) ⊎ (column_of bytes.now column.now scale before ≡ Err e)) }
+    ensures refused { IfErr result (λ e. (e ≡ CsvErr.Memory)
+        ⊎ (column_of bytes.now column.now scale before ≡ Err e)) }
 {
     let mut rdr = open(alloc, without_mark(bytes));
     read_under_header(alloc, &mut rdr, column, scale, before)

@@ -24,7 +24,8 @@ fn boxed(alloc: Global, q: Query) -> Result<Box<Query>, Memory>
 }
 
 fn sum_of_products(alloc: Global, t: &Series, u: &Series, bounds: Bounds) -> Result<Query, Memory>
-    ensures { IfOk result (λ q. query_term_of q ≡ sum (times (term_of t.now) (term_of u.now)) (Some (range_of bounds))) }
+    ensures { IfOk result (λ q. query_term_of q
+        ≡ sum (times (term_of t.now) (term_of u.now)) (Some (range_of bounds))) }
 {
     let left = Box::new(alloc, t.copy(alloc)?)?;
     let right = Box::new(alloc, u.copy(alloc)?)?;
@@ -44,7 +45,8 @@ fn statistic(alloc: Global, t: &Series, u: &Series, bounds: Bounds) -> Result<Qu
     Ok(Query::Sub(whole, part))
 }
 
-/// The query with each `Var` and `Cov` written out. Admission, domains, ranges and node numbers are those of this query.
+/// The query with each `Var` and `Cov` written out. Admission, domains, ranges and node numbers are those of this
+/// query.
 #[cycle(expand)]
 pub fn expand(alloc: Global, q: &Query) -> Result<Query, Memory>
     ensures { IfOk result (λ p. query_term_of p ≡ plain (query_term_of q.now)) }
@@ -67,8 +69,8 @@ fn expand_box(alloc: Global, q: &Query) -> Result<Box<Query>, Memory>
     Ok(Box::new(alloc, expand(alloc, q)?)?)
 }
 
-/// The plain query has sums alone, comes to what the query comes to, for all readings, and is within the limits where the
-/// query is.
+/// The plain query has sums alone, comes to what the query comes to, for all readings, and is within the limits where
+/// the query is.
 pub fn plain_queries_stand_for_theirs()
     ensures plain { PlainIsPlain }
     ensures value { ValueStays }

@@ -34,7 +34,8 @@ RecordWritesBack = (bytes : List ℕ) (start len : ℕ) → length bytes ≡ 56 
     → record_of (seg_in bytes start len) ≡ bytes
 
 abbrev pub TreeReadsBack : Type 0
-TreeReadsBack = (n : ℕ) (t : SegTree) (rest : List ℕ) → IsTreeOver n t → tree_in (plan 0 n) (image t ++ rest) ≡ t
+TreeReadsBack = (n : ℕ) (t : SegTree) (rest : List ℕ) → IsTreeOver n t
+    → tree_in (plan 0 n) (image t ++ rest) ≡ t
 
 -- every string of bytes of a tree's length is the image of a tree with its ranges
 abbrev pub TreeWritesBack : Type 0

@@ -55,8 +55,8 @@ pub record IsTrackOf {I : Type 0} (lengths : List ℕ) (roots : List (Option Seg
   pub rooted : 0 < track.len → (g : Seg) × (known_root roots track.series ≡ Some g) × (track.greatest ≡ g.d)
   pub stand : All (StandsFor stands track.series) track.rows
 
-abbrev pub AreTracksOf : {I : Type 0} → List ℕ → List (Option Seg) → (I → Place → Type 0) → List (Track (Held I))
-    → Type 0
+abbrev pub AreTracksOf : {I : Type 0} → List ℕ → List (Option Seg) → (I → Place → Type 0)
+    → List (Track (Held I)) → Type 0
 AreTracksOf lengths roots stands tracks = All (IsTrackOf lengths roots stands) tracks
 
 -- a node is a part of the tree of its series

@@ -43,7 +43,8 @@ abbrev pub node_facts : List (List ℕ) → List ℕ → List (Option Seg) → L
 node_facts names lengths roots = facts_from lengths roots 0 names
 
 -- those that a query names
-abbrev pub heads_from : {R : Type 0} → QueryTerm → List ℕ → List (Option Seg) → ℕ → List (List ℕ) → List (Track R)
+abbrev pub heads_from : {R : Type 0} → QueryTerm → List ℕ → List (Option Seg) → ℕ → List (List ℕ)
+    → List (Track R)
 heads_from q lengths roots k [] = []
 heads_from q lengths roots k (name ∷ names) =
     if list_any (same_name name) (query_names q)

@@ -27,7 +27,8 @@ IsLaid at zero [] = Unit {0}
 IsLaid at (suc left) [] = ⊥
 IsLaid at zero (None ∷ xs) = ⊥
 IsLaid at (suc left) (None ∷ xs) = IsLaid (at + 1) left xs
-IsLaid at zero (Some r ∷ xs) = (r.seg.start ≡ 16 * at) × (0 < r.seg.len) × IsLaid (at + 1) (blocks r.seg.len - 1) xs
+IsLaid at zero (Some r ∷ xs) =
+    (r.seg.start ≡ 16 * at) × (0 < r.seg.len) × IsLaid (at + 1) (blocks r.seg.len - 1) xs
 IsLaid at (suc left) (Some r ∷ xs) = ⊥
 
 -- a row with its readings, where it is opened

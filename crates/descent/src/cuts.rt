@@ -198,7 +198,8 @@ impl<I: Copy> Cut<I> {
         ensures spent { OnOk result (Spends (rows_in self.old.tracks) (opened_in self.old.tracks)
             (rows_in self.new.tracks) (opened_in self.new.tracks) (N.handed source.old) (N.handed source.new)) }
         ensures handed { HandsOut 112 (N.handed source.old) (N.handed source.new) }
-        ensures means { (forest : Forest) → N.means nodes.old source.old forest ↔ N.means nodes.new source.new forest }
+        ensures means { (forest : Forest)
+            → N.means nodes.old source.old forest ↔ N.means nodes.new source.new forest }
         ensures later { N.faults source.old ≤ N.faults source.new }
         ensures ids { (i : I) (p : Place) → N.stands nodes.old source.old i p → N.stands nodes.new source.new i p }
         ensures roots { KeepsRoots (N.roots nodes.old) (N.roots nodes.new) }

@@ -9,7 +9,8 @@ use Rattle.store_file.specs.declared.store.Stored.{Stored}
 use Rattle.std.specs.Prelude.{None}
 
 -- the map has these series, whose trees are of these nodes and true of their readings
-pub record HoldsSeries (nodes : Places) (map : List (List ℕ × Stored)) (es : List Entry) (bytes : List ℕ) : Type 0 where
+pub record HoldsSeries (nodes : Places) (map : List (List ℕ × Stored)) (es : List Entry)
+    (bytes : List ℕ) : Type 0 where
   pub series : series_of nodes map ≡ series_in es bytes
   pub trees : AreOf nodes map
   pub names : keys_of map ≡ names_of es

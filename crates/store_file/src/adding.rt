@@ -48,7 +48,8 @@ impl Store {
         ensures added { OnOk result (store_value self.new ≡ with_series (store_value self.old) name xs.now) }
         ensures addable { OnOk result (IsAddable (store_value self.old) name xs.now) }
         ensures ok { OnOk result (add_refusal self.old name xs.now ≡ None) }
-        ensures refused { IfErr result (λ e. (e ≡ SeriesErr.Memory) ⊎ (add_refusal self.old name xs.now ≡ Some e)) }
+        ensures refused { IfErr result (λ e. (e ≡ SeriesErr.Memory)
+            ⊎ (add_refusal self.old name xs.now ≡ Some e)) }
         ensures stay { OnErr result (self.new ≡ self.old) }
 
         ensures extends { Extends self.old.arena.nodes self.new.arena.nodes }

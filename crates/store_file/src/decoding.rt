@@ -155,7 +155,8 @@ fn push_series(
     requires limit { arena.old.limit ≡ 2 ^ 24 }
     requires no_series { series.old.entries ≡ [] }
     ensures added { OnOk result (HoldsSeries arena.new.nodes series.new.entries entries.now bytes.now) }
-    ensures bad { IfErr result (λ e. (e ≡ StoreErr.Memory) ⊎ (bad_in (series_in entries.now bytes.now) ≡ Some e)) }
+    ensures bad { IfErr result (λ e. (e ≡ StoreErr.Memory)
+        ⊎ (bad_in (series_in entries.now bytes.now) ≡ Some e)) }
     ensures degree { arena.new.degree ≡ arena.old.degree }
     ensures limit { arena.new.limit ≡ arena.old.limit }
     ensures room { OnOk result (used arena.new.nodes ≤ 2 ^ 21) }

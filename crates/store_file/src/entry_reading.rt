@@ -17,7 +17,8 @@ pub(crate) fn read_entries(alloc: Global, bytes: &[u8], count: u8) -> Result<Vec
     requires { 8 ≤ length bytes.now }
     ensures ok { IfOk result (λ es. entries_in count 8 [] (drop 8 bytes.now) ≡ Ok es.items) }
     ensures err { IfErr result (λ e. (e ≡ StoreErr.Memory)
-        ⊎ ((place : ℕ) × (e ≡ StoreErr.NotAStore place) × (entries_in count 8 [] (drop 8 bytes.now) ≡ Err place))) }
+        ⊎ ((place : ℕ) × (e ≡ StoreErr.NotAStore place)
+        × (entries_in count 8 [] (drop 8 bytes.now) ≡ Err place))) }
 {
     let mut entries = Vec::new(alloc);
     let mut place = FIXED;

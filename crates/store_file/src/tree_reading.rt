@@ -30,7 +30,8 @@ pub(crate) fn read_tree(
     ensures tree { IfOk result (λ t. IsTreeOf arena.new.nodes t) }
     ensures value { IfOk result (λ t. value_of arena.new.nodes t ≡ series_tree n bytes.now) }
     ensures good { OnOk result (bad_in_tree name (series_tree n bytes.now) ≡ None) }
-    ensures bad { IfErr result (λ e. (e ≡ StoreErr.Memory) ⊎ (bad_in_tree name (series_tree n bytes.now) ≡ Some e)) }
+    ensures bad { IfErr result (λ e. (e ≡ StoreErr.Memory)
+        ⊎ (bad_in_tree name (series_tree n bytes.now) ≡ Some e)) }
 
     ensures extends { Extends arena.old.nodes arena.new.nodes }
     ensures count { OnOk result (used arena.new.nodes ≤ used arena.old.nodes + 2 ^ 17) }

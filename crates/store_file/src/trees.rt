@@ -59,7 +59,8 @@ fn push_nodes(
     requires few { start + len ≤ 2 ^ 20 }
     requires some { 0 < len }
     requires linked { IsLinked arena.now.nodes place (plan start len) }
-    ensures { OnOk result (into.new.items ≡ into.old.items ++ image (tree_at arena.now.nodes place (plan start len))) }
+    ensures { OnOk result (into.new.items
+        ≡ into.old.items ++ image (tree_at arena.now.nodes place (plan start len))) }
 {
     let node = arena.node(place);
     push_record(&node.seg, into)?;

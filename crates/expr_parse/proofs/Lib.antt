@@ -1,5 +1,6 @@
 pub mod Appended
 pub mod Bounds
+pub mod CanonicalBytes
 pub mod CanonicalNesting
 pub mod CanonicalParsed
 pub mod CanonicalSaid

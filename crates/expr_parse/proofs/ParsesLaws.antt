@@ -1,5 +1,5 @@
 -- Each text comes to one thing by the grammar, which is no want of memory.
-use Rattle.std.proofs.Common.{◌≡◌, ◌≢◌, ℕ, length, Bool, true, false, cond, List, [], ◌∷◌, ◌⊎◌, inl, inr, map, Option, Some, None, refl, sym, ap, subst, ◌∙◌}
+use Rattle.std.proofs.Common.{◌≡◌, ◌≢◌, ℕ, length, Bool, true, false, cond, List, [], ◌∷◌, inl, inr, map, Option, Some, None, refl, sym, ap, subst, ◌∙◌}
 use Rattle.std.specs.Prelude.{Result, Ok, Err, option_map}
 use Rattle.semantics.specs.Term.{QueryTerm}
 use Rattle.semantics.specs.Limits.{most_names_in, query_depth, sums_in}
@@ -12,9 +12,8 @@ use Rattle.expr_parse.specs.declared.token.Token.{Token}
 use Rattle.expr_parse.specs.Lexemes.{lexeme_of}
 use Rattle.expr_parse.specs.Nesting.{is_nested}
 use Rattle.expr_parse.specs.Parsed.{by_grammar, by_lexemes, by_tokens, limited, parsed, place_of, IsTextOf}
-use Rattle.expr_parse.specs.Parses.{IsRead, IsRefused, Parses, ParsedIsParser, ParsesAlone, ParsesWithoutMemory, lexemes_refusal, text_refusal, tokens_refusal}
+use Rattle.expr_parse.specs.Parses.{IsRead, Parses, ParsedIsParser, ParsesAlone, ParsesWithoutMemory, lexemes_refusal, text_refusal, tokens_refusal}
 use Rattle.expr_parse.specs.Pending.{query, sticks}
-use Rattle.expr_parse.specs.QueryGrammar.{IsQuery}
 use Rattle.expr_parse.specs.Reading.{tree_of}
 use Rattle.expr_parse.specs.Tokens.{at_place, tokenized, tokens_of}
 use Rattle.expr_parse.proofs.Spelled.{in_grammar}

@@ -1,5 +1,5 @@
 -- The tree of a list of tokens, read as the pending list goes, with what each entry came to.
-use Rattle.std.specs.Prelude.{ℕ, ◌^◌, ℤ, pos, neg_ℤ, List, [], ◌∷◌, Option, Some, None, option_map, nat_le, if◌then◌else◌}
+use Rattle.std.specs.Prelude.{ℕ, ℤ, pos, neg_ℤ, List, [], ◌∷◌, Option, Some, None, option_map, nat_le, if◌then◌else◌}
 use Rattle.semantics.specs.Most.{most_shift}
 use Rattle.semantics.specs.Term as t
 use Rattle.semantics.specs.Term.{Term, Range, QueryTerm}
@@ -75,8 +75,10 @@ step VarNum rest (query ∷ es) =
     (rest (open_sign ∷ series ∷ comma_sign ∷ place ∷ comma_sign ∷ place ∷ close_sign ∷ more_query ∷ es))
 step CovNum rest (query ∷ es) =
     option_map
-    (λ p. ((t.covariance (series_tree p.0) (series_tree p.1.0) (range_from p.1.1.0 p.1.1.1.0), p.1.1.1.1.0),
-        p.1.1.1.1.1))
+    (λ p. (
+      (t.covariance (series_tree p.0) (series_tree p.1.0) (range_from p.1.1.0 p.1.1.1.0), p.1.1.1.1.0),
+      p.1.1.1.1.1,
+    ))
     (rest (open_sign ∷ series ∷ comma_sign ∷ series ∷ comma_sign ∷ place ∷ comma_sign ∷ place
     ∷ close_sign ∷ more_query ∷ es))
 step Plus rest (more_query ∷ es) = option_map (λ p. (plus p.0.0 p.0.1, p.1)) (rest (query ∷ es))

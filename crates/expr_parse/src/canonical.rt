@@ -1,12 +1,13 @@
-ghost use Rattle.std.specs.Prelude.{◌≡◌, ◌≤◌, ◌++◌, IfOk, Ok, OnOk, length};
+ghost use Rattle.std.specs.Prelude.{◌≡◌, ◌≤◌, ◌++◌, IfOk, Ok, OnOk, length, true};
 ghost use Rattle.std.specs.Fmt.{signed_decimal};
+ghost use Rattle.std.specs.List.{list_all};
 ghost use Rattle.std.specs.Option.{option_map};
 ghost use Rattle.expr.specs.Terms.{query_term_of, range_of, term_of};
 ghost use Rattle.semantics.specs.Limits.{IsWithinLimits};
 ghost use Rattle.semantics.specs.Most.{most_text};
 ghost use Rattle.semantics.specs.Term.{constant, covariance, sum, variance};
 ghost use Rattle.expr_parse.specs.Parsed.{parsed};
-ghost use Rattle.expr_parse.specs.Printed.{CanonicalIsParsed, CanonicalIsShortest, CanonicalIsText, IsNamedQuery, IsNamedSeries, ParsedIsText};
+ghost use Rattle.expr_parse.specs.Printed.{CanonicalIsParsed, CanonicalIsShortest, CanonicalIsText, HasMachineConstants, HasMachineEnds, HasMachineNumbers, HasMachineRange, IsMachineNumber, IsNamedQuery, IsNamedSeries, ParsedIsText, is_query_byte};
 ghost use Rattle.expr_parse.specs.Canonical.{canonical_text, closed, ends_text, groups_product, groups_sum, opened, query_text, range_text, series_text};
 
 use expr::{Bounds, Query, Series};
@@ -70,15 +71,25 @@ fn put_closed(into: &mut Vec<u8>, grouped: bool) -> Result<(), Memory>
     Ok(())
 }
 
+fn write_whole(alloc: Global, into: &mut Vec<u8>, v: i128) -> Result<(), Memory>
+    ensures appended { OnOk result (into.new.items ≡ into.old.items ++ signed_decimal v) }
+    ensures held { IsMachineNumber v }
+{
+    write_i128(alloc, into, v)?;
+    Ok(())
+}
+
 fn write_place(alloc: Global, into: &mut Vec<u8>, place: i64) -> Result<(), Memory>
-    ensures { OnOk result (into.new.items ≡ into.old.items ++ signed_decimal place) }
+    ensures appended { OnOk result (into.new.items ≡ into.old.items ++ signed_decimal place) }
+    ensures held { IsMachineNumber place }
 {
     write_i128(alloc, into, i128::from(place))?;
     Ok(())
 }
 
 fn write_range(alloc: Global, into: &mut Vec<u8>, bounds: Bounds) -> Result<(), Memory>
-    ensures { OnOk result (into.new.items ≡ into.old.items ++ range_text (range_of bounds)) }
+    ensures appended { OnOk result (into.new.items ≡ into.old.items ++ range_text (range_of bounds)) }
+    ensures held { OnOk result (HasMachineEnds (range_of bounds)) }
 {
     put(into, ",")?;
     write_place(alloc, into, bounds.l)?;
@@ -89,7 +100,8 @@ fn write_range(alloc: Global, into: &mut Vec<u8>, bounds: Bounds) -> Result<(), 
 }
 
 fn write_ends(alloc: Global, into: &mut Vec<u8>, bounds: Option<Bounds>) -> Result<(), Memory>
-    ensures { OnOk result (into.new.items ≡ into.old.items ++ ends_text (option_map range_of bounds)) }
+    ensures appended { OnOk result (into.new.items ≡ into.old.items ++ ends_text (option_map range_of bounds)) }
+    ensures held { OnOk result (HasMachineRange (option_map range_of bounds)) }
 {
     match bounds {
         Some(bounds) => {
@@ -117,11 +129,12 @@ fn write_constant(alloc: Global, into: &mut Vec<u8>, v: i128, bounds: Bounds) ->
 fn write_series(alloc: Global, into: &mut Vec<u8>, level: Level, t: &Series) -> Result<(), Memory>
     ensures appended { OnOk result (into.new.items ≡ into.old.items ++ series_text level (term_of t.now)) }
     ensures named { OnOk result (IsNamedSeries (term_of t.now)) }
+    ensures held { OnOk result (HasMachineConstants (term_of t.now)) }
 {
     match t {
         Series::Base(name) => put_bytes(into, name.bytes()),
         Series::Const { v, a, b } => write_constant(alloc, into, *v, Bounds { l: *a, r: *b }),
-        Series::Bare(v) => write_i128(alloc, into, *v),
+        Series::Bare(v) => write_whole(alloc, into, *v),
         Series::Plus(u, v) => {
             put_opened(into, level.groups_sum())?;
             write_series(alloc, into, Level::OfSum, u)?;
@@ -166,6 +179,7 @@ fn write_sum(
     ensures appended { OnOk result (into.new.items
         ≡ into.old.items ++ query_text Level.OfSum (sum (term_of t.now) (option_map range_of bounds))) }
     ensures named { OnOk result (IsNamedSeries (term_of t.now)) }
+    ensures held { OnOk result (HasMachineNumbers (sum (term_of t.now) (option_map range_of bounds))) }
 {
     put(into, "sum(")?;
     write_series(alloc, into, Level::OfSum, t)?;
@@ -182,6 +196,7 @@ fn write_variance(
     ensures appended { OnOk result (into.new.items
         ≡ into.old.items ++ query_text Level.OfSum (variance (term_of t.now) (range_of bounds))) }
     ensures named { OnOk result (IsNamedSeries (term_of t.now)) }
+    ensures held { OnOk result (HasMachineNumbers (variance (term_of t.now) (range_of bounds))) }
 {
     put(into, "varnum(")?;
     write_series(alloc, into, Level::OfSum, t)?;
@@ -199,6 +214,7 @@ fn write_covariance(
     ensures appended { OnOk result (into.new.items
         ≡ into.old.items ++ query_text Level.OfSum (covariance (term_of t.now) (term_of u.now) (range_of bounds))) }
     ensures named { OnOk result (IsNamedSeries (term_of t.now) × IsNamedSeries (term_of u.now)) }
+    ensures held { OnOk result (HasMachineNumbers (covariance (term_of t.now) (term_of u.now) (range_of bounds))) }
 {
     put(into, "covnum(")?;
     write_series(alloc, into, Level::OfSum, t)?;
@@ -212,9 +228,10 @@ fn write_covariance(
 fn write_query(alloc: Global, into: &mut Vec<u8>, level: Level, q: &Query) -> Result<(), Memory>
     ensures appended { OnOk result (into.new.items ≡ into.old.items ++ query_text level (query_term_of q.now)) }
     ensures named { OnOk result (IsNamedQuery (query_term_of q.now)) }
+    ensures held { OnOk result (HasMachineNumbers (query_term_of q.now)) }
 {
     match q {
-        Query::Number(v) => write_i128(alloc, into, *v),
+        Query::Number(v) => write_whole(alloc, into, *v),
         Query::Sum(t, bounds) => write_sum(alloc, into, t, *bounds),
         Query::Var(t, bounds) => write_variance(alloc, into, t, *bounds),
         Query::Cov(t, u, bounds) => write_covariance(alloc, into, t, u, *bounds),
@@ -248,6 +265,9 @@ fn write_query(alloc: Global, into: &mut Vec<u8>, level: Level, q: &Query) -> Re
 /// The text of a query: no blanks, canonical digits, and parentheses only where the tree needs them.
 pub fn print(alloc: Global, q: &Query) -> Result<Vec<u8>, Memory>
     ensures canonical { IfOk result (λ text. text.items ≡ canonical_text (query_term_of q.now)) }
+
+    // It has letters, digits, `_` and signs alone.
+    ensures plain { IfOk result (λ text. list_all is_query_byte text.items ≡ true) }
 
     // It is parsed as the query again, where it is not too long.
     ensures read_again { IfOk result (λ text.

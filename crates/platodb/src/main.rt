@@ -1,5 +1,6 @@
 //! The program: it makes the files of the current folder, standard output and the words, calls `run`, and ends with the
-//! number of its status. Where the system does not hand out the words, it ends with 1 for want of memory, else with 100.
+//! number of its status. Where the system does not hand out the words, it ends with 1 for want of memory, else with
+//! 100.
 #![tactic(auto)]
 
 ghost use Rattle.std.specs.Prelude.{◌≡◌};

@@ -33,5 +33,6 @@ first-of-zero = refl
 first-of-seven : generated 7 3 ≡ negsuc 1 ∷ pos 126 ∷ pos 124 ∷ []
 first-of-seven = refl
 
-wave-turns : wave 511 ∷ wave 512 ∷ wave 513 ∷ wave 1023 ∷ wave 1024 ∷ [] ≡ 511 ∷ 512 ∷ 511 ∷ 1 ∷ 0 ∷ []
+wave-turns : wave 511 ∷ wave 512 ∷ wave 513 ∷ wave 1023 ∷ wave 1024 ∷ []
+    ≡ 511 ∷ 512 ∷ 511 ∷ 1 ∷ 0 ∷ []
 wave-turns = refl

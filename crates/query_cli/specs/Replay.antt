@@ -57,7 +57,8 @@ pub record Stands (old : Files) (store : List ℕ) (h : List Accepted) (now : Op
   pub files : now ≡ Some (with_file old store (store_image (replay h)))
 
 -- the readings that a column of a file has at a scale, behind the reading before
-pub record IsColumnOf (files : Files) (csv column : List ℕ) (scale : ℕ) (before : Option ℤ) (xs : List ℤ) : Type 0 where
+pub record IsColumnOf (files : Files) (csv column : List ℕ) (scale : ℕ) (before : Option ℤ)
+    (xs : List ℤ) : Type 0 where
   pub bytes : List ℕ
   pub held : file_of files csv ≡ Some bytes
   pub readings : column_of bytes column scale before ≡ Ok xs
@@ -68,7 +69,8 @@ HistoriesMakeStores = (h : List Accepted) → IsHistory h → IsStoreValue (repl
 
 -- a history goes on with each command that its store accepts
 abbrev pub HistoriesGoOn : Type 0
-HistoriesGoOn = (h : List Accepted) (c : Accepted) → IsHistory h → IsAccepted (replay h) c → IsHistory (h ++ c ∷ [])
+HistoriesGoOn = (h : List Accepted) (c : Accepted)
+    → IsHistory h → IsAccepted (replay h) c → IsHistory (h ++ c ∷ [])
 
 -- no readings leave a store as it is
 abbrev pub EmptyGrowthStays : Type 0

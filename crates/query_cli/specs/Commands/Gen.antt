@@ -105,6 +105,7 @@ pub record StepsTo (old : Files) (c : GenCommand) (m : StoreValue) (now : Option
 
 -- what becomes of the store for which STORE stands, and of its history
 pub record GenReplays (old : Files) (c : GenCommand) (now : Option Files) : Type 0 where
-  pub store : (m : StoreValue) → IsStoreValue m → file_of old c.store ≡ Some (store_image m) → StepsTo old c m now
+  pub store : (m : StoreValue) → IsStoreValue m → file_of old c.store ≡ Some (store_image m)
+      → StepsTo old c m now
   pub history : (h : List Accepted) → IsHistory h → file_of old c.store ≡ Some (store_image (replay h))
       → Stands old c.store (h ++ addition c ∷ []) now

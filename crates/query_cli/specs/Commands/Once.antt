@@ -22,7 +22,8 @@ pub record OnceCommand : Type 0 where
   pub until : ℤ
 
 -- the numbers of `once`, where each is one
-abbrev pub with_numbers : List ℕ → List ℕ → Option ℕ → Option ℕ → Option ℤ → Option ℤ → Option OnceCommand
+abbrev pub with_numbers : List ℕ → List ℕ → Option ℕ → Option ℕ → Option ℤ → Option ℤ
+    → Option OnceCommand
 with_numbers csv column (Some scale) (Some budget) (Some from) (Some until) =
     Some (record { csv = csv; column = column; scale = scale; budget = budget; from = from; until = until })
 with_numbers csv column (Some scale) (Some budget) (Some from) None = None
@@ -48,7 +49,8 @@ sum_query c = sum (base (codes "x")) (Some (record { left = c.from; right = c.un
 
 -- what `once` asks, by the bytes of its file
 abbrev pub summed_in : OnceCommand → List ℕ → Result Asked Refusal
-summed_in c bytes = and_then (column_in bytes c.column c.scale None) (λ xs. admitted_in (sum_query c) (one_series c xs))
+summed_in c bytes =
+    and_then (column_in bytes c.column c.scale None) (λ xs. admitted_in (sum_query c) (one_series c xs))
 
 -- what `once` asks, or its first refusal
 abbrev pub summed_by : Reading → OnceCommand → Result Asked Refusal

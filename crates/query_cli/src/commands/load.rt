@@ -93,7 +93,8 @@ fn added(alloc: Global, store: &mut Store, name: Name, xs: &[i32]) -> Result<Wri
     requires small { AreReadings xs.now }
     requires nodes { HasRoom store.old }
     ensures line { IfOk result (λ w. string_bytes w.line ≡ loaded_line name (length xs.now)) }
-    ensures bytes { IfOk result (λ w. w.bytes.items ≡ store_image (with_series (store_value store.old) name xs.now)) }
+    ensures bytes { IfOk result (λ w.
+        w.bytes.items ≡ store_image (with_series (store_value store.old) name xs.now)) }
     ensures addable { OnOk result (IsAddable (store_value store.old) name xs.now) }
 {
     let line = line_of(alloc, &name, xs.len())?;

@@ -1,0 +1,4 @@
+pub mod EventLaws
+pub mod NameLaws
+pub mod ScriptLaws
+pub mod WordLaws

@@ -1,0 +1,17 @@
+//! Sessions over one store: the events of a script, and the line of each reply.
+#![tactic(auto)]
+
+mod events;
+mod laws;
+mod lines;
+mod replies;
+mod scripts;
+mod words;
+
+pub use events::Event;
+pub use laws::scripts_are_worked;
+pub use replies::{Cause, Reply, write_reply};
+pub use scripts::{ScriptErr, read_script};
+
+#[cfg(test)]
+mod tests;

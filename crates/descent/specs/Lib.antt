@@ -16,3 +16,8 @@ pub mod Frames
 pub mod Charging
 pub mod Spent
 pub mod Below
+pub mod Cells
+pub mod Readers
+pub mod Kept
+pub mod KeptSums
+pub mod Changed

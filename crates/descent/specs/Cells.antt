@@ -1,0 +1,18 @@
+-- The offsets of a sum, from its first position on, cut into cells: wherever an occurrence reads the first position of a
+-- row, a cell begins.
+use Rattle.std.specs.Prelude.{◌≡◌, ℕ, ◌+◌, ◌-◌, ◌*◌, ◌/◌, ◌^◌, ◌<◌, ◌≤◌, min}
+use Rattle.descent.specs.declared.cells.Cells.{Cells}
+
+-- the first offset of a cell; the first cell is shorter by the pad, and none goes beyond the sum
+abbrev pub offset_of : Cells → ℕ → ℕ
+offset_of g c = min g.count (c * g.grain - g.pad)
+
+abbrev pub cells_in : Cells → ℕ
+cells_in g = (g.count + g.pad + (g.grain - 1)) / g.grain
+
+pub record AreCells (g : Cells) : Type 0 where
+  pub some : 0 < g.grain
+  pub fine : g.grain ≤ 16
+  pub pad : g.pad < g.grain
+  pub none : g.count ≡ 0 → g.pad ≡ 0
+  pub few : g.count ≤ 2 ^ 20

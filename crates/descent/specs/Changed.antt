@@ -5,8 +5,8 @@ use Rattle.descent.specs.Held.{head_of}
 use Rattle.descent.specs.Readers.{track_at}
 use Rattle.descent.specs.Rows.{Row, Cut, entries}
 use Rattle.descent.specs.Sound.{IsSound}
-use Rattle.descent.specs.Sums.{range_of}
 use Rattle.error_prop.specs.Limits.{IsSeriesWithinLimits}
+use Rattle.error_prop.specs.QueryOver.{range_over}
 use Rattle.error_prop.specs.Sums.{AdmitsSum}
 
 -- a leaf's row, and the same one opened
@@ -48,8 +48,9 @@ pub record HasChanged (k : ℕ) (old : Row) (before now : Cut) : Type 0 where
   pub is : (track_at now k).rows ≡ front ++ new ++ back
   pub gave : GaveWay old new
 
--- a sum of which something can be kept: it is within the limits, and admitted over the cut's segments
+-- a sum of which something can be kept: it is within the limits, and admitted over the cut's segments on its range, or
+-- on its domain, which may be empty
 pub record CanKeep (cut : Cut) (s : SumTerm) : Type 0 where
   pub sound : IsSound cut
   pub limits : IsSeriesWithinLimits s.series
-  pub admitted : AdmitsSum (entries cut) s.series (range_of cut s).left (range_of cut s).right
+  pub admitted : AdmitsSum (entries cut) s.series (range_over (entries cut) s.series s.range).left (range_over (entries cut) s.series s.range).right

@@ -48,9 +48,10 @@ band_of cut i = sum_below (λ j. blocks (track_at cut j).len) i
 abbrev pub place_of : Cut → ℕ → Row → ℕ
 place_of cut i row = band_of cut i + row.seg.start / 16
 
--- each row is charged at its place, and nothing else is
+-- each row begins at a border of blocks and is charged at its place, and nothing else is
 pub record AreCharged (cut : Cut) (k : KeptSum) : Type 0 where
   pub room : band_of cut (length cut) ≤ length k.charges
+  pub borders : (i : ℕ) (row : Row) → i < length cut → Has row (track_at cut i).rows → (b : ℕ) × (row.seg.start ≡ 16 * b)
   pub each : (i : ℕ) (row : Row) → i < length cut → Has row (track_at cut i).rows
       → number k.charges (place_of cut i row) ≡ row_charge k i row
   pub others : (p : ℕ) → 0 < number k.charges p

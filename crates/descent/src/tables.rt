@@ -1,6 +1,6 @@
 //! The rows of one series of a cut, each at the place of its first block.
 
-ghost use Rattle.std.specs.Prelude.{◌≡◌, ℕ, ◌+◌, ◌-◌, ◌*◌, ◌<◌, ◌≤◌, length, List, [], ◌∷◌, map, None, Some, slice_set, IfSome, IfOk, get_or, ◌^◌, replicate, ◌++◌, OnOk, take};
+ghost use Rattle.std.specs.Prelude.{◌≡◌, ℕ, ◌+◌, ◌-◌, ◌*◌, ◌/◌, ◌<◌, ◌≤◌, length, List, [], ◌∷◌, map, None, Some, slice_set, IfSome, IfOk, get_or, ◌^◌, replicate, ◌++◌, OnOk, take};
 ghost use Rattle.segment.specs.Shape.{IsSplit};
 ghost use Rattle.descent.specs.Held.{Held, row_in as row_held};
 ghost use Rattle.descent.specs.Told.{told_row};
@@ -199,6 +199,15 @@ impl<I: Copy> Table<I> {
         ensures { result ≡ self.now.series }
     {
         self.series
+    }
+
+    /// How many blocks of 16 readings the series has.
+    pub(crate) fn blocks(&self) -> u32
+        ensures count { result ≡ blocks self.now.len }
+        ensures sound { IsSoundTrack (with_rows row_held self.now) }
+        ensures borders { (h : Held I) → Has h self.now.rows → h.row.seg.start ≡ 16 * (h.row.seg.start / 16) }
+    {
+        self.len.div_ceil(16)
     }
 
     /// The row from a position on, or none where no row begins there.

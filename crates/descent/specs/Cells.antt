@@ -1,6 +1,6 @@
 -- The offsets of a sum, from its first position on, cut into cells: wherever an occurrence reads the first position of a
 -- row, a cell begins.
-use Rattle.std.specs.Prelude.{◌≡◌, ℕ, ◌+◌, ◌-◌, ◌*◌, ◌/◌, ◌^◌, ◌<◌, ◌≤◌, min}
+use Rattle.std.specs.Prelude.{◌≡◌, ℕ, ◌+◌, ◌-◌, ◌*◌, ◌/◌, ◌^◌, ◌<◌, ◌≤◌, ℤ, pos, ◌+ℤ◌, ◌≤ℤ◌, min}
 use Rattle.descent.specs.declared.cells.Cells.{Cells}
 
 -- the first offset of a cell; the first cell is shorter by the pad, and none goes beyond the sum
@@ -16,3 +16,9 @@ pub record AreCells (g : Cells) : Type 0 where
   pub pad : g.pad < g.grain
   pub none : g.count ≡ 0 → g.pad ≡ 0
   pub few : g.count ≤ 2 ^ 20
+
+-- the first cell that is read from a position on, where the first offset of all is read at another
+pub record IsBorder (g : Cells) (at : ℤ) (position a : ℕ) : Type 0 where
+  pub within : a ≤ cells_in g
+  pub low : (c : ℕ) → c < a → (at +ℤ pos (offset_of g c + 1)) ≤ℤ pos position
+  pub high : (c : ℕ) → a ≤ c → c < cells_in g → pos position ≤ℤ (at +ℤ pos (offset_of g c))

@@ -11,8 +11,9 @@ use Rattle.bounds.specs.Cut.{Entry, segs_of, AreDistinct, weight_at, charge_by, 
 use Rattle.bounds.specs.Segments.{covers}
 use Rattle.descent.specs.declared.readers.Reader.{Reader}
 use Rattle.descent.specs.Choice.{Has}
-use Rattle.descent.specs.Readers.{reader_at, rows_read}
+use Rattle.descent.specs.Readers.{reader_at, rows_read, AreReadersOf}
 use Rattle.descent.specs.Rows.{Row, Cut, entries}
+use Rattle.descent.specs.Sound.{IsSound}
 
 pub record Kept : Type 0 where
   -- how many cells the piece has, what it adds to the estimate, and with what weight an occurrence reads it at most
@@ -90,3 +91,8 @@ pub record SaysAfresh (cut : Cut) (t : Term) (l : ℤ) (n : ℕ) (offset : ℕ �
       → charge_by (kept_weight offset kept cells) t l name g
       ≡ charge_by (greatest_weight (segs_of (entries cut)) t l n) t l name g
   pub error : AreDistinct (entries cut) → error_by (kept_weight offset kept cells) (entries cut) t l ≡ sum_error (entries cut) t l n
+
+abbrev pub KeptSaysAfresh : Type 0
+KeptSaysAfresh = (cut : Cut) (t : Term) (l : ℤ) (n : ℕ) (rs : List Reader) (offset : ℕ → ℕ) (cells : ℕ) (kept : Kept)
+    → IsSound cut → AreReadersOf cut t l n rs → IsKept cut t l n rs offset cells kept
+    → SaysAfresh cut t l n offset cells kept

@@ -21,3 +21,4 @@ pub mod Readers
 pub mod Kept
 pub mod KeptSums
 pub mod Changed
+pub mod Charges

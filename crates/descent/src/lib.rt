@@ -5,11 +5,16 @@ ghost use Rattle.descent.specs.Laws.{EachBudgetIsMet, EachCutHoldsTheValue};
 ghost use Rattle.descent.specs.Spelled.{SpellingTellsQueries};
 ghost use Rattle.descent.specs.Worked.{DescentsAreWorked, OtherSumsAreWorked, ProductsAreWorked};
 
+mod cells;
+mod charges;
 mod choosing;
 mod cuts;
 mod descents;
+mod estimates;
 mod frames;
+mod kept;
 mod naming;
+mod readers;
 mod rooted;
 mod rows;
 mod tables;

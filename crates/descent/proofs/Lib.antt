@@ -20,3 +20,7 @@ pub mod Framing
 pub mod Going
 pub mod ChoiceLaws
 pub mod SpentLaws
+pub mod CellLaws
+pub mod KeptLaws
+pub mod Untouched
+pub mod KeptEnds

@@ -10,12 +10,14 @@ offset_of g c = min g.count (c * g.grain - g.pad)
 abbrev pub cells_in : Cells → ℕ
 cells_in g = (g.count + g.pad + (g.grain - 1)) / g.grain
 
+-- a sum of constants alone, which may have 2^41 positions, is one cell
 pub record AreCells (g : Cells) : Type 0 where
   pub some : 0 < g.grain
-  pub fine : g.grain ≤ 16
+  pub fine : g.grain ≤ 2 ^ 41
   pub pad : g.pad < g.grain
   pub none : g.count ≡ 0 → g.pad ≡ 0
-  pub few : g.count ≤ 2 ^ 20
+  pub room : g.count ≤ 2 ^ 41
+  pub few : cells_in g ≤ 2 ^ 20
 
 -- the first cell that is read from a position on, where the first offset of all is read at another
 pub record IsBorder (g : Cells) (at : ℤ) (position a : ℕ) : Type 0 where

@@ -1,10 +1,14 @@
 -- Cuts of which one row gave way to those below it.
-use Rattle.std.specs.Prelude.{◌≡◌, ℕ, ◌+◌, ◌*◌, ◌<◌, ◌⊎◌, ⊥, Some, None, ℤ, List, [], ◌∷◌, ◌++◌, length}
-use Rattle.semantics.specs.Admission.{SumTerm}
+use Rattle.std.specs.Prelude.{◌≡◌, ℕ, ◌+◌, ◌*◌, ◌^◌, ◌<◌, ◌≤◌, ◌⊎◌, ⊥, Some, None, ℤ, unsigned_abs, List, [], ◌∷◌, ◌++◌, length}
+use Rattle.std.specs.List.{All}
+use Rattle.semantics.specs.Admission.{series_names, SumTerm}
+use Rattle.semantics.specs.Admitted.{IsKnown}
 use Rattle.descent.specs.Held.{head_of}
+use Rattle.descent.specs.Known.{facts_in}
 use Rattle.descent.specs.Readers.{track_at}
 use Rattle.descent.specs.Rows.{Row, Cut, entries}
 use Rattle.descent.specs.Sound.{IsSound}
+use Rattle.descent.specs.Sums.{count_of, first_of}
 use Rattle.error_prop.specs.Limits.{IsSeriesWithinLimits}
 use Rattle.error_prop.specs.QueryOver.{range_over}
 use Rattle.error_prop.specs.Sums.{AdmitsSum}
@@ -48,9 +52,12 @@ pub record HasChanged (k : ℕ) (old : Row) (before now : Cut) : Type 0 where
   pub is : (track_at now k).rows ≡ front ++ new ++ back
   pub gave : GaveWay old new
 
--- a sum of which something can be kept: it is within the limits, and admitted over the cut's segments on its range, or
--- on its domain, which may be empty
+-- a sum of which something can be kept: it is within the limits, its names are those of tracks, it is admitted over the
+-- cut's segments on its range, or on its domain, which may be empty, and that is not too far away
 pub record CanKeep (cut : Cut) (s : SumTerm) : Type 0 where
   pub sound : IsSound cut
   pub limits : IsSeriesWithinLimits s.series
   pub admitted : AdmitsSum (entries cut) s.series (range_over (entries cut) s.series s.range).left (range_over (entries cut) s.series s.range).right
+  pub known : All (IsKnown (facts_in cut)) (series_names s.series)
+  pub near : unsigned_abs (first_of cut s) ≤ 2 ^ 46
+  pub room : count_of cut s ≤ 2 ^ 41

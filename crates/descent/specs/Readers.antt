@@ -39,4 +39,4 @@ pub record AreReadersOf (cut : Cut) (t : Term) (l : ℤ) (n : ℕ) (rs : List Re
 -- a border of cells is read as a border of blocks of so many positions
 pub record AreAligned (g : Cells) (rs : List Reader) : Type 0 where
   pub each : (o : ℕ) → o < length rs → 0 < g.count → (k : ℕ) × ((reader_at rs o).at ≡ pos (g.pad + g.grain * k))
-  pub whole : (k : ℕ) × (16 ≡ g.grain * k)
+  pub whole : 0 < length rs → (k : ℕ) × (16 ≡ g.grain * k)

@@ -22,3 +22,4 @@ pub mod Kept
 pub mod KeptSums
 pub mod Changed
 pub mod Charges
+pub mod Keeping

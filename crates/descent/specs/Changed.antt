@@ -1,5 +1,5 @@
 -- Cuts of which one row gave way to those below it.
-use Rattle.std.specs.Prelude.{◌≡◌, ℕ, ◌+◌, ◌*◌, ◌^◌, ◌<◌, ◌≤◌, ◌⊎◌, ⊥, Some, None, ℤ, unsigned_abs, List, [], ◌∷◌, ◌++◌, length}
+use Rattle.std.specs.Prelude.{◌≡◌, ℕ, ◌+◌, ◌*◌, ◌^◌, ◌<◌, ◌≤◌, ◌⊎◌, Some, None, ℤ, unsigned_abs, List, [], ◌∷◌, ◌++◌, length}
 use Rattle.std.specs.List.{All}
 use Rattle.semantics.specs.Admission.{series_names, SumTerm}
 use Rattle.semantics.specs.Admitted.{IsKnown}
@@ -57,7 +57,8 @@ pub record HasChanged (k : ℕ) (old : Row) (before now : Cut) : Type 0 where
 pub record CanKeep (cut : Cut) (s : SumTerm) : Type 0 where
   pub sound : IsSound cut
   pub limits : IsSeriesWithinLimits s.series
-  pub admitted : AdmitsSum (entries cut) s.series (range_over (entries cut) s.series s.range).left (range_over (entries cut) s.series s.range).right
+  pub admitted : AdmitsSum (entries cut) s.series (range_over (entries cut) s.series s.range).left
+      (range_over (entries cut) s.series s.range).right
   pub known : All (IsKnown (facts_in cut)) (series_names s.series)
   pub near : unsigned_abs (first_of cut s) ≤ 2 ^ 46
   pub room : count_of cut s ≤ 2 ^ 41

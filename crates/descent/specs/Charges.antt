@@ -1,5 +1,5 @@
 -- Charges at the places of their rows.
-use Rattle.std.specs.Prelude.{◌≡◌, ℕ, ◌+◌, ◌<◌, ◌≤◌, ◌×◌, ⊥, Option, Some, None, List, [], ◌∷◌, ◌++◌, length, map}
+use Rattle.std.specs.Prelude.{◌≡◌, ℕ, ◌+◌, ◌<◌, ◌≤◌, Option, Some, None, List, [], ◌∷◌, ◌++◌, length, map}
 use Rattle.semantics.specs.Sums.{sum_below}
 use Rattle.tops.specs.Tops.{number, IsTop}
 use Rattle.descent.specs.declared.kept.KeptSum.{KeptSum}

@@ -2,7 +2,7 @@
 --
 -- On a piece each occurrence stays in one row. Everything stands at the cell where a piece begins; at all other cells
 -- there is 0.
-use Rattle.std.specs.Prelude.{◌≡◌, ℕ, ◌+◌, ◌-◌, ◌<◌, ◌≤◌, ◌⊎◌, if◌then◌else◌, ⊥, ℤ, pos, ◌+ℤ◌, List}
+use Rattle.std.specs.Prelude.{◌≡◌, ℕ, ◌+◌, ◌-◌, ◌<◌, ◌≤◌, ◌⊎◌, if◌then◌else◌, ℤ, pos, ◌+ℤ◌, List}
 use Rattle.semantics.specs.Measures.{names_in}
 use Rattle.semantics.specs.Sums.{total_below, most_below}
 use Rattle.semantics.specs.Term.{Term}

@@ -1,5 +1,5 @@
 -- What a cut keeps of a sum, by the fields of the code.
-use Rattle.std.specs.Prelude.{◌≡◌, ℕ, ◌+◌, ◌*◌, ◌/◌, ◌%◌, ◌^◌, ◌<◌, ◌≤◌, ◌==◌, ◌×◌, ◌⊎◌, ⊥, is_some, if◌then◌else◌, Option, Some, None, ℤ, pos, List, [], ◌∷◌, length, get_or}
+use Rattle.std.specs.Prelude.{◌≡◌, ℕ, ◌+◌, ◌*◌, ◌/◌, ◌%◌, ◌^◌, ◌<◌, ◌≤◌, ◌==◌, ◌⊎◌, is_some, if◌then◌else◌, Option, Some, None, ℤ, pos, List, [], ◌∷◌, length, get_or}
 use Rattle.semantics.specs.Admission.{SumTerm}
 use Rattle.semantics.specs.Readings.{reading}
 use Rattle.semantics.specs.Sums.{sum_below}

@@ -1,6 +1,6 @@
 //! The offsets of a sum, cut into cells.
 
-ghost use Rattle.std.specs.Prelude.{◌≡◌, ◌⊎◌, ◌×◌, ℕ, ◌+◌, ◌-◌, ◌*◌, ◌/◌, ◌^◌, ◌≤◌, unsigned_abs};
+ghost use Rattle.std.specs.Prelude.{◌≡◌, ◌⊎◌, ℕ, ◌+◌, ◌-◌, ◌*◌, ◌/◌, ◌^◌, ◌≤◌, unsigned_abs};
 ghost use Rattle.descent.specs.Cells.{cells_in, offset_of, AreCells, IsBorder};
 
 use crate::readers::Reader;

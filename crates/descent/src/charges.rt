@@ -1,6 +1,6 @@
 //! The charges of the rows of a sum, each at the place of its row, and their sum.
 
-ghost use Rattle.std.specs.Prelude.{◌≡◌, ◌×◌, ℕ, ◌%◌, ◌^◌, ◌<◌, ◌≤◌, length, slice_set, IfOk, List, MatchOption, replicate};
+ghost use Rattle.std.specs.Prelude.{◌≡◌, ℕ, ◌%◌, ◌^◌, ◌<◌, ◌≤◌, length, slice_set, IfOk, List, MatchOption, replicate};
 ghost use Rattle.semantics.specs.Sums.{sum_below};
 ghost use Rattle.tops.specs.Tops.{number, IsTop};
 

@@ -23,3 +23,4 @@ pub mod KeptSums
 pub mod Changed
 pub mod Charges
 pub mod Keeping
+pub mod Settled

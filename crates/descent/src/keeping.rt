@@ -97,9 +97,9 @@ fn take_over_all<I: Copy>(
     ensures { OnOk result (AreKeptSums (shown tables.now) (sums_of (query_term_of q.now)) kept.new.items) }
 {
     for k in 0..count(q) {
-        let (t, range) = sum_at(q, k);
+        let (t, _) = sum_at(q, k);
         let sum = &mut kept[k];
-        sum.take_over(alloc, t, range, tables, change)?;
+        sum.take_over(alloc, t, tables, change)?;
     }
     Ok(())
 }

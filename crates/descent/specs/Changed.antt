@@ -61,4 +61,5 @@ pub record CanKeep (cut : Cut) (s : SumTerm) : Type 0 where
       (range_over (entries cut) s.series s.range).right
   pub known : All (IsKnown (facts_in cut)) (series_names s.series)
   pub near : unsigned_abs (first_of cut s) ≤ 2 ^ 46
+  pub end : unsigned_abs (range_over (entries cut) s.series s.range).right ≤ 2 ^ 46
   pub room : count_of cut s ≤ 2 ^ 41

@@ -1,8 +1,9 @@
 -- The occurrences of a sum, as the code has them.
-use Rattle.std.specs.Prelude.{◌≡◌, ℕ, ◌+◌, ◌*◌, ◌<◌, ◌≤◌, ℤ, pos, ◌+ℤ◌, ◌≤ℤ◌, List, [], length, get_or}
+use Rattle.std.specs.Prelude.{◌≡◌, ℕ, ◌+◌, ◌*◌, ◌%◌, ◌<◌, ◌≤◌, ℤ, pos, ◌+ℤ◌, ◌≤ℤ◌, suc, if◌then◌else◌, List, [], ◌∷◌, length, get_or}
 use Rattle.semantics.specs.Measures.{names_in}
+use Rattle.semantics.specs.Names.{same_name}
 use Rattle.semantics.specs.Term.{Term}
-use Rattle.bounds.specs.Cut.{occurrence_at}
+use Rattle.bounds.specs.Cut.{occurrence_at, Occurrence}
 use Rattle.descent.specs.declared.cells.Cells.{Cells}
 use Rattle.descent.specs.declared.readers.Reader.{Reader}
 use Rattle.descent.specs.Rows.{Row, Track, Cut}
@@ -23,6 +24,14 @@ track_at cut k = get_or cut k no_track
 abbrev pub rows_read : Cut → Reader → List Row
 rows_read cut r = (track_at cut r.track).rows
 
+-- the first track of a name, and behind all where there is none
+abbrev pub track_of : Cut → List ℕ → ℕ
+track_of [] name = 0
+track_of (track ∷ tracks) name = if same_name track.name name then 0 else suc (track_of tracks name)
+
+abbrev pub reader_of : Cut → Occurrence → Reader
+reader_of cut o = record { track = track_of cut o.name; at = o.at }
+
 -- a reader is that of an occurrence, and reads inside of its track at so many offsets
 pub record IsReaderOf (cut : Cut) (t : Term) (l : ℤ) (n o : ℕ) (r : Reader) : Type 0 where
   pub track : r.track < length cut
@@ -40,3 +49,17 @@ pub record AreReadersOf (cut : Cut) (t : Term) (l : ℤ) (n : ℕ) (rs : List Re
 pub record AreAligned (g : Cells) (rs : List Reader) : Type 0 where
   pub each : (o : ℕ) → o < length rs → 0 < g.count → (k : ℕ) × ((reader_at rs o).at ≡ pos (g.pad + g.grain * k))
   pub whole : 0 < length rs → (k : ℕ) × (16 ≡ g.grain * k)
+
+-- an occurrence is read at the same place of its grain as the first one
+pub record IsAtPlace (rs : List Reader) (grain o : ℕ) : Type 0 where
+  pub place : ℕ
+  pub first : ℕ
+  pub place_is : pos place ≡ (reader_at rs o).at
+  pub first_is : pos first ≡ (reader_at rs 0).at
+  pub same : place % grain ≡ first % grain
+
+-- a grain of which 16 positions are so many
+pub record IsGrain (grain : ℕ) : Type 0 where
+  pub some : 0 < grain
+  pub times : ℕ
+  pub whole : 16 ≡ grain * times

@@ -19,6 +19,7 @@ mod naming;
 mod readers;
 mod rooted;
 mod rows;
+mod said;
 mod tables;
 
 pub use cuts::Cut;

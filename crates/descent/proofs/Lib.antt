@@ -24,3 +24,4 @@ pub mod CellLaws
 pub mod KeptLaws
 pub mod Untouched
 pub mod KeptEnds
+pub mod Tiles

@@ -6,15 +6,18 @@ ghost use Rattle.expr.specs.Terms.{range_of, term_of};
 ghost use Rattle.semantics.specs.Admission.{SumTerm};
 ghost use Rattle.semantics.specs.Readings.{positions_in};
 ghost use Rattle.semantics.specs.Sums.{most_below};
+ghost use Rattle.semantics.specs.Term.{Term};
 ghost use Rattle.tops.specs.Tops.{number};
 ghost use Rattle.descent.specs.Cells.{AreCells, cells_in, offset_of};
 ghost use Rattle.descent.specs.Changed.{CanKeep, HasChanged};
+ghost use Rattle.descent.specs.Charges.{AreRecharged};
 ghost use Rattle.descent.specs.Held.{row_in, shown};
 ghost use Rattle.descent.specs.Kept.{kept_in};
-ghost use Rattle.descent.specs.KeptSums.{band_of, charge_in, numbers_at, AreCharged, IsKeptSum};
+ghost use Rattle.descent.specs.KeptSums.{band_of, charge_in, numbers_at, IsKeptSum};
 ghost use Rattle.descent.specs.Laid.{held};
 ghost use Rattle.descent.specs.Readers.{reader_at};
 ghost use Rattle.descent.specs.Rows.{Cut};
+ghost use Rattle.descent.specs.Said.{AllStay};
 ghost use Rattle.descent.specs.Settled.{lens_of, AreJointsFor, AreReadIn, CanBeCharged, CanBeRead, CanSay, HasOtherWeights, IsJointOf, IsKeptBefore, IsOfSum, IsRightAt, IsSameAt, IsSameSum, IsSettled, IsShaped, IsTrimmed};
 ghost use Rattle.descent.specs.Sound.{IsSound};
 
@@ -24,7 +27,7 @@ use crate::choosing::range_of_sum;
 use crate::cuts::Change;
 use crate::estimates::Estimates;
 use crate::frames::facts_of;
-use crate::readers::{Reader, cells_for, readers_of};
+use crate::readers::{Reader, cells_for, position_of, readers_of};
 use crate::said::{say, stretch};
 use crate::tables::Table;
 use expr::{Bounds, Series};
@@ -199,9 +202,9 @@ impl KeptSum {
     {
         put_at(&mut self.weights, o, c, weight);
         let reader = self.readers[o];
-        let position = reader.at + self.cells.offset(c) as i64;
+        let position = position_of(&reader, self.cells.offset(c) as u64);
         let i = reader.track as usize;
-        if let Some(seg) = tables[i].closed_at(position as u32) {
+        if let Some(seg) = tables[i].closed_at(position) {
             self.recharge(tables, i, &seg);
         }
     }
@@ -223,6 +226,31 @@ impl KeptSum {
         }
     }
 
+    /// A piece is cut off where an occurrence goes on in another row. Answers how many offsets are left of it.
+    fn cut_off<I: Copy>(&mut self, tables: &[Table<I>], c: usize) -> u64
+        requires say { (t : Term) × CanSay (shown tables.now) t self.old × IsShaped (shown tables.now) t self.old }
+        requires piece { 0 < lens_of self.old c }
+        ensures trimmed { (len : ℕ) × (0 < len) × (len ≤ lens_of self.old c)
+            × IsTrimmed (lens_of self.old) (lens_of self.new) c len }
+        ensures count { result ≡ offset_of self.new.cells (c + lens_of self.new c) - offset_of self.new.cells c }
+        ensures some { 0 < result }
+        ensures still { AllStay (shown tables.now) self.new.readers.items (offset_of self.new.cells c) result }
+        ensures length { length self.new.lens.items ≡ length self.old.lens.items }
+        ensures same { self.new ≡ record self.old { lens = self.new.lens } }
+    {
+        let from = self.cells.offset(c);
+        let until = self.cells.offset(c + self.lens[c] as usize);
+        let len = stretch(
+            tables,
+            self.readers.as_slice(),
+            from as u64,
+            (until - from) as u64,
+        );
+        let next = self.cells.cell_at(from + len as usize);
+        trim(&mut self.lens, c, next - c);
+        len
+    }
+
     /// A piece is cut off where an occurrence goes on in another row, and what is left of it is put right.
     fn settle_at<I: Copy>(
         &mut self,
@@ -241,22 +269,11 @@ impl KeptSum {
             → IsSameAt self.old self.new d) }
         ensures same { OnOk result (IsSameSum self.old self.new) }
     {
-        let from = self.cells.offset(c);
-        let until = self.cells.offset(c + self.lens[c] as usize);
-        let most = stretch(tables, self.readers.as_slice(), from as u32, (until - from) as u32);
-        let next = self.cells.cell_at(from + most as usize);
-        trim(&mut self.lens, c, next - c);
-        let mut weights = vec![in alloc; 0u128; self.readers.len()]?;
-        let estimate = say(
-            alloc,
-            t,
-            self.first,
-            tables,
-            self.readers.as_slice(),
-            from as u32,
-            most,
-            &mut weights,
-        )?;
+        let len = self.cut_off(tables, c);
+        let from = self.cells.offset(c) as u64;
+        let readers = self.readers.as_slice();
+        let mut weights = vec![in alloc; 0u128; readers.len()]?;
+        let estimate = say(alloc, t, self.first, tables, readers, from, len, &mut weights)?;
         self.estimates.put(c, estimate);
         self.put_weights(tables, c, weights.as_slice());
         Ok(())
@@ -341,10 +358,11 @@ impl KeptSum {
     fn charge_anew<I: Copy>(&mut self, tables: &[Table<I>], change: &Change<I>)
         requires read { CanBeRead self.old }
         requires sound { IsSound (shown tables.now) }
-        requires before { (before : Cut) × HasChanged change.now.table (row_in (held change.now.row)) before
-            (shown tables.now) × AreCharged before self.old }
-        ensures charged { (before : Cut) → HasChanged change.now.table (row_in (held change.now.row)) before
-            (shown tables.now) → AreCharged before self.old → AreCharged (shown tables.now) self.new }
+        requires room { band_of (shown tables.now) (length tables.now) ≤ length self.old.charges }
+        requires changed { (before : Cut) × HasChanged change.now.table (row_in (held change.now.row)) before
+            (shown tables.now) }
+        ensures charged { (before : Cut) → (h : HasChanged change.now.table (row_in (held change.now.row)) before
+            (shown tables.now)) → AreRecharged (shown tables.now) change.now.table h.new self.old self.new.charges }
         ensures same { self.new ≡ record self.old { charges = self.new.charges } }
     {
         let start = change.row.seg.start;

@@ -190,7 +190,7 @@ abbrev pub own_charges : List Entry → SumTerm → List ℕ
 own_charges es s = let r = range_or s.range (domain_of (end_of_name es) s.series) in charges_of es s.series r.left (positions_in r.left r.right)
 
 -- the positions of a whole domain
-whole-count : (d : Range) → positions_in (whole d).left (whole d).right ≡ positions_in d.left d.right
+pub whole-count : (d : Range) → positions_in (whole d).left (whole d).right ≡ positions_in d.left d.right
 whole-count d = go (d.right -ℤ d.left) (int_max d.left d.right -ℤ d.left) (omega (arith, ints, clamps)) (omega (arith, ints, clamps))
   where
     go : (y z : ℤ) → (pos 0 ≤ℤ y → z ≡ y) → (y <ℤ pos 0 → z ≡ pos 0) → from_zero z ≡ from_zero y

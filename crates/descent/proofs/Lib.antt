@@ -25,3 +25,5 @@ pub mod KeptLaws
 pub mod Untouched
 pub mod KeptEnds
 pub mod Tiles
+pub mod Changes
+pub mod KeepingLaws

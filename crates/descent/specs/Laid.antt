@@ -1,5 +1,5 @@
 -- Rows that stand at the places of their first blocks.
-use Rattle.std.specs.Prelude.{◌≡◌, ℕ, zero, suc, ◌+◌, ◌-◌, ◌*◌, ◌/◌, ◌^◌, ◌<◌, ◌≤◌, if◌then◌else◌, List, [], ◌∷◌, ◌++◌, length, map, take, drop, ◌==◌, ◌⊎◌, Option, None, Some, get_or, slice_index}
+use Rattle.std.specs.Prelude.{◌≡◌, ℕ, zero, suc, ◌+◌, ◌-◌, ◌*◌, ◌/◌, ◌^◌, ◌<◌, ◌≤◌, if◌then◌else◌, List, [], ◌∷◌, ◌++◌, length, map, take, drop, ◌==◌, ◌⊎◌, Option, None, Some, get_or, slice_index, ℤ}
 use Rattle.std.specs.Option.{option_map}
 use Rattle.descent.specs.declared.tables.Row.{Row}
 use Rattle.descent.specs.declared.tables.Table.TheInside.{Inside}
@@ -100,12 +100,14 @@ pub record AreHalves {I : Type 0} (rows : List (Held I)) (left right : Seg) : Ty
   pub rest : 0 < right.len
   pub whole : left.len + right.len ≡ before.seg.len
 
--- two rows that a closed one gave way to
+-- two closed rows that a closed one gave way to
 pub record AreHalvesOf {I : Type 0} (old : Row I) (rows : List (Held I)) : Type 0 where
   pub left : Held I
   pub right : Held I
   pub left_there : Has left rows
   pub right_there : Has right rows
+  pub left_closed : left.row.readings ≡ None
+  pub right_closed : right.row.readings ≡ None
   pub starts : left.row.seg.start ≡ old.seg.start
   pub half : ℕ
   pub some : 0 < half
@@ -119,6 +121,8 @@ pub record IsOpeningOf {I : Type 0} (old : Row I) (rows : List (Held I)) : Type 
   pub new : Held I
   pub there : Has new rows
   pub same : new.row.seg ≡ old.seg
+  pub readings : List ℤ
+  pub opened : new.row.readings ≡ Some readings
 
 -- a closed row that gave way to what stands in its place
 pub record CanGoBack {I : Type 0} (old : Row I) (rows : List (Held I)) : Type 0 where

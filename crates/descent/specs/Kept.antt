@@ -54,8 +54,8 @@ abbrev pub StaysIn : ℤ → ℕ → ℕ → Row → Type 0
 StaysIn at from n row = (i : ℕ) → i < n → covers row.seg (at +ℤ pos (from + i)) ≡ covers row.seg (at +ℤ pos from)
 
 -- so many offsets, from one on, as a cut says them
-pub record IsSaid (cut : Cut) (t : Term) (l : ℤ) (from n : ℕ) (estimate : ℤ) (weight : ℕ → ℕ) : Type 0 where
-  pub estimate : estimate ≡ total_below (behind (estimate_from (segs_of (entries cut)) t l) from) n
+pub record IsSaid (cut : Cut) (t : Term) (l : ℤ) (from n : ℕ) (e : ℤ) (weight : ℕ → ℕ) : Type 0 where
+  pub estimate : e ≡ total_below (behind (estimate_from (segs_of (entries cut)) t l) from) n
   pub greatest : (o : ℕ) → o < names_in t
       → weight o ≡ most_below (behind (weight_at (segs_of (entries cut)) t l o) from) n
 

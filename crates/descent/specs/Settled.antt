@@ -126,10 +126,10 @@ pub record AreJointsFor (k : KeptSum) (o : ℕ) (s : Seg) : Type 0 where
 
 -- ---- a change that is to be taken over
 
--- what is kept of a sum was right before a row of the k-th track gave way
-pub record IsKeptBefore (k : ℕ) (row : Row) (now : Cut) (t : Term) (s : SumTerm) (kept : KeptSum) : Type 0 where
+-- what is kept of a sum was right before a row of the i-th track gave way
+pub record IsKeptBefore (i : ℕ) (row : Row) (now : Cut) (t : Term) (s : SumTerm) (k : KeptSum) : Type 0 where
   pub before : Cut
-  pub changed : HasChanged k row before now
+  pub changed : HasChanged i row before now
   pub can : CanKeep now s
   pub series : s.series ≡ t
-  pub kept : IsKeptSum before s kept
+  pub kept : IsKeptSum before s k

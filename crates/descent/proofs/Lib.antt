@@ -20,7 +20,10 @@ pub mod Framing
 pub mod Going
 pub mod ChoiceLaws
 pub mod SpentLaws
+pub mod TileLaws
 pub mod CellLaws
+pub mod SumLaws
+pub mod TopLaws
 pub mod KeptLaws
 pub mod Untouched
 pub mod KeptEnds

@@ -24,6 +24,7 @@ pub mod TileLaws
 pub mod CellLaws
 pub mod SumLaws
 pub mod TopLaws
+pub mod TrackLaws
 pub mod KeptLaws
 pub mod Untouched
 pub mod KeptEnds

@@ -1,6 +1,7 @@
 //! Cuts over several series, the choice of a row, and the descent to a budget.
 #![tactic(auto)]
 
+ghost use Rattle.descent.specs.Kept.{KeptSaysAfresh};
 ghost use Rattle.descent.specs.Laws.{EachBudgetIsMet, EachCutHoldsTheValue};
 ghost use Rattle.descent.specs.Spelled.{SpellingTellsQueries};
 ghost use Rattle.descent.specs.Worked.{DescentsAreWorked, OtherSumsAreWorked, ProductsAreWorked};
@@ -45,6 +46,11 @@ pub fn descents_are_worked()
 /// Every budget is met by one cut, a budget of 0 too.
 pub fn every_budget_is_met()
     ensures { EachBudgetIsMet }
+{}
+
+/// What is kept by pieces says what a cut says afresh.
+pub fn kept_says_afresh()
+    ensures { KeptSaysAfresh }
 {}
 
 /// No two queries are spelled alike.

@@ -31,3 +31,6 @@ pub mod KeptEnds
 pub mod Tiles
 pub mod Changes
 pub mod KeepingLaws
+pub mod ReadRuns
+pub mod RowLaws
+pub mod ChargeSteps

@@ -34,3 +34,4 @@ pub mod KeepingLaws
 pub mod ReadRuns
 pub mod RowLaws
 pub mod ChargeSteps
+pub mod Settling

@@ -62,7 +62,7 @@ row-most cut t l n rs offset cells kept o row is below there =
 
 -- ---- charges
 
-part-free : (weight : ℕ → ℤ → Seg → ℕ) (t : Term) (l : ℤ) (name : List ℕ) (g : Seg) (o : ℕ) → g.l ≡ 0
+pub part-free : (weight : ℕ → ℤ → Seg → ℕ) (t : Term) (l : ℤ) (name : List ℕ) (g : Seg) (o : ℕ) → g.l ≡ 0
     → charge_part weight t l name g o ≡ 0
 part-free weight t l name g o z = by (same_name name (occurrence_at t l o).name)
   where

@@ -27,6 +27,7 @@ pub mod TopLaws
 pub mod TrackLaws
 pub mod KeptLaws
 pub mod Untouched
+pub mod SiteLaws
 pub mod KeptEnds
 pub mod Tiles
 pub mod Changes

@@ -6,6 +6,8 @@ pub mod Works
 pub mod Ends
 pub mod Values
 pub mod Places
+pub mod Owners
+pub mod Standing
 pub mod Backs
 pub mod Steps
 pub mod Tracks

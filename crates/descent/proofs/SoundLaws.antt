@@ -36,7 +36,7 @@ units-touch : (start : ℕ) (xs : List ℤ) → TouchFrom start (units start xs)
 units-touch start [] = omega arith
 units-touch start (x ∷ xs) = let e : start + 1 + length xs ≡ start + suc (length xs) = omega arith in (refl, subst (TouchFrom (start + 1) (units (start + 1) xs)) e (units-touch (start + 1) xs))
 
-row-touch : (d from : ℕ) (row : Row) → IsSoundRow d row → row.seg.start ≡ from → TouchFrom from (segs_of_row row) (from + row.seg.len)
+pub row-touch : (d from : ℕ) (row : Row) → IsSoundRow d row → row.seg.start ≡ from → TouchFrom from (segs_of_row row) (from + row.seg.len)
 row-touch d from row s at = by row.readings s.read
   where
     by : (o : Option (List ℤ)) → ((xs : List ℤ) → o ≡ Some xs → AreSmall d row.seg.len xs) → TouchFrom from (segs_given row.seg o) (from + row.seg.len)

@@ -301,6 +301,8 @@ impl<I: Copy> Table<I> {
         requires { position < self.now.len }
         ensures there { Has (held result) self.now.rows }
         ensures covered { covers result.seg (pos position) ≡ true }
+        ensures sound { IsSoundTrack (with_rows row_held self.now) }
+        ensures borders { (h : Held I) → Has h self.now.rows → h.row.seg.start ≡ 16 * (h.row.seg.start / 16) }
     {
         let owner = self.owners[(position / 16) as usize];
         let Some(row) = row_in(&self.places, owner as usize) else {

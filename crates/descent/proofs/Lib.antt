@@ -28,6 +28,7 @@ pub mod SumLaws
 pub mod TopLaws
 pub mod TrackLaws
 pub mod KeptLaws
+pub mod GivenUp
 pub mod Untouched
 pub mod SiteLaws
 pub mod KeptEnds

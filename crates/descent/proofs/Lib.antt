@@ -39,3 +39,5 @@ pub mod ReadRuns
 pub mod RowLaws
 pub mod ChargeSteps
 pub mod Settling
+pub mod SettleSteps
+pub mod Taking

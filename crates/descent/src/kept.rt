@@ -366,7 +366,6 @@ impl KeptSum {
         ensures same { self.new ≡ record self.old { charges = self.new.charges } }
     {
         let start = change.row.seg.start;
-        let end = start + change.row.seg.len;
         let table = &tables[change.table];
         let Some(left) = table.closed_at(start) else {
             let at = band(tables, change.table) + (start / 16) as usize;
@@ -374,11 +373,7 @@ impl KeptSum {
             return;
         };
         self.recharge(tables, change.table, &left);
-        let middle = left.start + left.len;
-        if middle == end {
-            return;
-        }
-        if let Some(right) = table.closed_at(middle) {
+        if let Some(right) = table.closed_at(left.start + left.len) {
             self.recharge(tables, change.table, &right);
         }
     }

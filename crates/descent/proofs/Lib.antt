@@ -41,3 +41,4 @@ pub mod ChargeSteps
 pub mod Settling
 pub mod SettleSteps
 pub mod Taking
+pub mod Anew

@@ -157,6 +157,7 @@ can-keep cut t range sound short known each names depth near =
       admitted = each.0;
       known = known.known;
       near = subst (λ i. unsigned_abs i ≤ 2 ^ 46) (sym (first-over cut t range)) n.left;
+      end = n.right;
       room = subst (λ k. k ≤ 2 ^ 41) (sym (count-over cut t range)) n.room;
     }
 

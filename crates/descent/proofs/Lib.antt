@@ -42,3 +42,4 @@ pub mod Settling
 pub mod SettleSteps
 pub mod Taking
 pub mod Anew
+pub mod KeptPicks

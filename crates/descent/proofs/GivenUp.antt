@@ -74,7 +74,8 @@ same-place i old before now j row h = let e = same-band i old before now h j in 
 -- ---- the rows
 
 -- a row of one of three parts
-pub has-parts : {P : Type 0} → (row : Row) (xs ys zs : List Row) → (Has row xs → P) → (Has row ys → P) → (Has row zs → P)
+pub has-parts : {P : Type 0} → (row : Row) (xs ys zs : List Row) → (Has row xs → P) → (Has row ys → P)
+    → (Has row zs → P)
     → Has row (xs ++ ys ++ zs) → P
 has-parts {P} row xs ys zs f g k h = first xs f h
   where
@@ -286,10 +287,12 @@ row-positions d from row s = by row.readings refl
             omega arith in
         let v : end_from from (units row.seg.start xs) ≡ length xs + from =
             let z : from ≡ 0 + from = omega arith in
-            ap (λ q. end_from q (units row.seg.start xs)) z ∙ end-more 0 from (units row.seg.start xs) ∙ ap (λ q. q + from) u in
+            ap (λ q. end_from q (units row.seg.start xs)) z ∙ end-more 0 from (units row.seg.start xs)
+                ∙ ap (λ q. q + from) u in
         rw e (v ∙ omega arith)
 
-new-positions : (d from : ℕ) (old : Row) (new : List Row) → GaveWay old new → ((row : Row) → Has row new → IsSoundRow d row)
+new-positions : (d from : ℕ) (old : Row) (new : List Row) → GaveWay old new
+    → ((row : Row) → Has row new → IsSoundRow d row)
     → end_from from (segs_of_rows new) ≡ from + old.seg.len
 new-positions d from old [] gave s = absurd gave
 new-positions d from old (r ∷ []) gave s =
@@ -364,4 +367,5 @@ pub same-range : (i : ℕ) (old : Row) (before now : Cut) (s : SumTerm) → HasC
 same-range i old before now s h sound =
     ap (range_or s.range) (same_domain (end_of_name (entries now)) (end_of_name (entries before)) s.series
       (each-of (λ name. end_of_name (entries now) name ≡ end_of_name (entries before) name) s.series
-        (λ name. ends-from before now name h.count (same-name i old before now h) (track-end i old before now h sound))))
+        (λ name. ends-from before now name h.count (same-name i old before now h)
+            (track-end i old before now h sound))))

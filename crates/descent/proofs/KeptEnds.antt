@@ -85,7 +85,8 @@ small cut s can =
 
 -- what is kept is right
 kept-right : (cut : Cut) (s : SumTerm) (k : KeptSum) → IsKeptSum cut s k
-    → IsKept cut s.series (first_of cut s) (count_of cut s) k.readers.items (offset_of k.cells) (cells_in k.cells) (kept_of k)
+    → IsKept cut s.series (first_of cut s) (count_of cut s) k.readers.items (offset_of k.cells) (cells_in k.cells)
+    (kept_of k)
 kept-right cut s k is = record {
   offsets = subst (λ n. AreOffsets (offset_of k.cells) (cells_in k.cells) n) is.count
       (offsets k.cells is.cells);
@@ -126,7 +127,8 @@ closed-has (r ∷ rows) row (inl e) closed =
     let c : r.readings ≡ None = ap (λ (q : Row). q.readings) (sym e) ∙ closed in
     let g : row.seg ≡ r.seg = ap (λ (q : Row). q.seg) e in
     has-left row.seg (segs_of_row r) (segs_of_rows rows) (rw c (inl g))
-closed-has (r ∷ rows) row (inr h) closed = has-right row.seg (segs_of_row r) (segs_of_rows rows) (closed-has rows row h closed)
+closed-has (r ∷ rows) row (inr h) closed = has-right row.seg (segs_of_row r) (segs_of_rows rows)
+    (closed-has rows row h closed)
 
 -- what is kept of a closed row
 closed-charge : (cut : Cut) (s : SumTerm) (k : KeptSum) (i : ℕ) (row : Row) → IsSound cut → IsKeptSum cut s k
@@ -139,7 +141,8 @@ closed-charge cut s k i row sound is lt there closed =
     let parts : sum_below (part_of k i row.seg) (length k.readers.items)
         ≡ charge_by w s.series (first_of cut s) name row.seg =
         ap (sum_below (part_of k i row.seg)) is.readers.count
-        ∙ sum_below-same (part_of k i row.seg) (charge_part w s.series (first_of cut s) name row.seg) (names_in s.series)
+        ∙ sum_below-same (part_of k i row.seg) (charge_part w s.series (first_of cut s) name row.seg)
+        (names_in s.series)
           (λ o below. part-is cut s k i o row.seg sound is lt below) in
     let there : Has row.seg (segs_of (entries cut) name) =
         subst (Has row.seg) (sym (segs-of-track cut i sound.apart lt))
@@ -249,7 +252,8 @@ kept-sum cut s k is can =
 pub kept-heaviest : (cut : Cut) (s : SumTerm) (k : KeptSum) (at : ℕ) → IsKeptSum cut s k → CanKeep cut s
     → IsTop k.charges at → 0 < number k.charges at → IsHeaviestAt cut s at
 kept-heaviest cut s k at is can top some =
-    let t = (top-is-heaviest (place_in cut) (charge_at cut s) (sites cut) k.charges at (charges-are cut s k is can) top).some
+    let t = (top-is-heaviest (place_in cut) (charge_at cut s) (sites cut) k.charges at
+        (charges-are cut s k is can) top).some
         some in
     let st = t.0 in
     let in-cut = site-is 0 cut st t.1 in

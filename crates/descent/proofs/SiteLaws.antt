@@ -102,7 +102,8 @@ go-up-weaken : {A : Type 0} → (place : A → ℕ) (from low : ℕ) (xs : List 
 go-up-weaken place from low [] le u = tt
 go-up-weaken place from low (x ∷ xs) le u = let l = u.0 in (omega arith, u.1)
 
-go-rows : (cut : Cut) (i : ℕ) (rows : List Row) (ys : List Site) (from low len : ℕ) → TouchFrom from (map seg_of rows) len
+go-rows : (cut : Cut) (i : ℕ) (rows : List Row) (ys : List Site) (from low len : ℕ)
+    → TouchFrom from (map seg_of rows) len
     → ((row : Row) → Has row rows → 0 < row.seg.len)
     → ((row : Row) → Has row rows → (b : ℕ) × (row.seg.start ≡ 16 * b)) → 16 * low ≤ from + 15
     → GoUp (place_in cut) (band_of cut i + blocks len) ys
@@ -172,7 +173,8 @@ place-within cut i row s lt h =
 abbrev pub charge_at : Cut → SumTerm → Site → ℕ
 charge_at cut s st = charge_of cut s (track_at cut st.track).name st.row
 
-pub sum_over-append : {A : Type 0} → (w : A → ℕ) (xs ys : List A) → sum_over w (xs ++ ys) ≡ sum_over w xs + sum_over w ys
+pub sum_over-append : {A : Type 0} → (w : A → ℕ) (xs ys : List A)
+    → sum_over w (xs ++ ys) ≡ sum_over w xs + sum_over w ys
 sum_over-append w [] ys = omega arith
 sum_over-append w (x ∷ xs) ys = omega (arith, sum_over-append w xs ys)
 
@@ -189,7 +191,8 @@ rows-sum cut s i track (row ∷ rows) e =
     let f = charge_by (weight_for cut s) s.series (first_of cut s) track.name in
     let here : charge_at cut s (site i row) ≡ sum_by f (segs_of_row row) =
         ap (λ (t : Track Row). charge_of cut s t.name row) e in
-    ap₂ (λ a b. a + b) here (rows-sum cut s i track rows e) ∙ sym (sum_by-append f (segs_of_row row) (segs_of_rows rows))
+    ap₂ (λ a b. a + b) here (rows-sum cut s i track rows e)
+        ∙ sym (sum_by-append f (segs_of_row row) (segs_of_rows rows))
 
 tracks-sum : (cut : Cut) (s : SumTerm) (i : ℕ) (tracks : List (Track Row)) → AreFrom cut i tracks
     → sum_over (charge_at cut s) (sites_from i tracks)
@@ -247,4 +250,5 @@ heaviest-map w f (x ∷ xs) = ap (heavier w (f x)) (heaviest-map w f xs) ∙ hea
 pub heaviest-site : (cut : Cut) (s : SumTerm)
     → heaviest charge (charged_rows cut s) ≡ option_map (charged_at cut s) (heaviest (charge_at cut s) (sites cut))
 heaviest-site cut s =
-    ap (heaviest charge) (tracks-charged cut s 0 cut (from-start cut)) ∙ heaviest-map charge (charged_at cut s) (sites cut)
+    ap (heaviest charge) (tracks-charged cut s 0 cut (from-start cut))
+        ∙ heaviest-map charge (charged_at cut s) (sites cut)

@@ -114,7 +114,8 @@ tail-most lens offset f w cells n are tiled piece blank (suc fuel) c long le (in
     let cells-moved : most_below (behind (behind f c) len) m ≡ most_below (behind f (c + len)) m =
         most_below-same (behind (behind f c) len) (behind f (c + len)) m (λ j lt. ap f (omega arith)) in
     let offsets-moved : most_below (behind (behind w (offset c)) wide) k ≡ most_below (behind w (offset (c + len))) k =
-        most_below-same (behind (behind w (offset c)) wide) (behind w (offset (c + len))) k (λ j lt. ap w (omega arith)) in
+        most_below-same (behind (behind w (offset c)) wide) (behind w (offset (c + len))) k
+            (λ j lt. ap w (omega arith)) in
     ap (most_below (behind f c)) s.rest
     ∙ most_below-split (behind f c) len m
     ∙ ap₂ max here (cells-moved ∙ i ∙ sym offsets-moved)
@@ -147,8 +148,10 @@ tail-total lens offset f w cells n are tiled piece blank (suc fuel) c long le (i
         (λ j low high. blank (c + j) (p.inside j low high)) in
     let cells-moved : total_below (behind (behind f c) len) m ≡ total_below (behind f (c + len)) m =
         total_below-same (behind (behind f c) len) (behind f (c + len)) m (λ j lt. ap f (omega arith)) in
-    let offsets-moved : total_below (behind (behind w (offset c)) wide) k ≡ total_below (behind w (offset (c + len))) k =
-        total_below-same (behind (behind w (offset c)) wide) (behind w (offset (c + len))) k (λ j lt. ap w (omega arith)) in
+    let offsets-moved : total_below (behind (behind w (offset c)) wide) k
+        ≡ total_below (behind w (offset (c + len))) k =
+        total_below-same (behind (behind w (offset c)) wide) (behind w (offset (c + len))) k
+            (λ j lt. ap w (omega arith)) in
     ap (total_below (behind f c)) s.rest
     ∙ total_below-split (behind f c) len m
     ∙ ap₂ (λ a b. a +ℤ b) here (cells-moved ∙ i ∙ sym offsets-moved)

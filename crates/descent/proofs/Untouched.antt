@@ -167,7 +167,8 @@ reads-same i old before now t l n rs j h sound are passed =
       let name : (track_at before k).name ≡ (occurrence_at t l o).name =
           sym (same-name i old before now h k) ∙ r.name in
       let other : segs_of (entries before) (occurrence_at t l o).name ≡ segs_of_rows (track_at before k).rows =
-          ap (segs_of (entries before)) (sym name) ∙ segs-of-track before k (apart-before i old before now h sound) lt in
+          ap (segs_of (entries before)) (sym name)
+              ∙ segs-of-track before k (apart-before i old before now h sound) lt in
       let same : seg_at (segs_of_rows (track_at before k).rows) z ≡ seg_at (segs_of_rows (track_at now k).rows) z =
           same-read i old before now k z h sound r.track (passed o below) in
       let both : seg_at (segs_of (entries before) (occurrence_at t l o).name) z
@@ -215,7 +216,8 @@ untouched i old before now t l n rs offset kept c h sound are passed is = record
         all-along i old before now t l rs offset kept c o h is below track (passed o below track) j lt
 
     same : (j : ℕ) → j < len → SayTheSame (segs_of (entries before)) (segs_of (entries now)) t l (offset c + j)
-    same j lt = reads-same i old before now t l n rs (offset c + j) h sound are (λ o below track. along o j below track lt)
+    same j lt = reads-same i old before now t l n rs (offset c + j) h sound are
+        (λ o below track. along o j below track lt)
 
     still : (o : ℕ) (row : Row) → o < names_in t → Has row (rows_read now (reader_at rs o))
         → StaysIn (reader_at rs o).at (offset c) len row
@@ -316,7 +318,8 @@ recharged i old before now k charges h sound are new = record {
             one-place (place_in now) 0 (sites now) (site j row) (site i is.row)
             (places-go-up now sound.tracks borders) (site-has now j row lt there) other (sym is.place) in
         let own = new.each is.row is.there in
-        subst (λ (st : Site). number charges (place_of now st.track st.row) ≡ row_charge k st.track st.row) (sym same) own
+        subst (λ (st : Site). number charges (place_of now st.track st.row) ≡ row_charge k st.track st.row)
+            (sym same) own
     | inr none ↦
         new.others (place_of now j row) none
         ∙ ap (number k.charges) (same-place i old before now j row h)
@@ -426,10 +429,12 @@ taken-in i old before now s k charges h is can new = record {
     | inr right ↦ elim (find-read i old k.readers.items (offset_of k.cells c) (names_in s.series)) [
         | inl read ↦ inl read
         | inr none ↦
-            let right-now : IsKeptAt now s.series (first_of before s) k.readers.items (offset_of k.cells) (kept_of k) c =
+            let right-now : IsKeptAt now s.series (first_of before s) k.readers.items (offset_of k.cells)
+                (kept_of k) c =
                 untouched i old before now s.series (first_of before s) (count_of before s) k.readers.items
                 (offset_of k.cells) (kept_of k) c h can.sound are none right in
-            inr (subst (λ l. IsKeptAt now s.series l k.readers.items (offset_of k.cells) (kept_of k) c) (sym first) right-now)
+            inr (subst (λ l. IsKeptAt now s.series l k.readers.items (offset_of k.cells) (kept_of k) c)
+                (sym first) right-now)
       ]
   ];
 }

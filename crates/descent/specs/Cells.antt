@@ -1,5 +1,5 @@
--- The offsets of a sum, from its first position on, cut into cells: wherever an occurrence reads the first position of a
--- row, a cell begins.
+-- The offsets of a sum, from its first position on, cut into cells: wherever an occurrence reads the first position of
+-- a row, a cell begins.
 use Rattle.std.specs.Prelude.{◌≡◌, ℕ, ◌+◌, ◌-◌, ◌*◌, ◌/◌, ◌^◌, ◌<◌, ◌≤◌, ℤ, pos, ◌+ℤ◌, ◌≤ℤ◌, min}
 use Rattle.descent.specs.declared.cells.Cells.{Cells}
 

@@ -1,4 +1,5 @@
--- What is kept of a sum: its cells joined to pieces, and of each piece the estimate and each occurrence's greatest weight.
+-- What is kept of a sum: its cells joined to pieces, and of each piece the estimate and each occurrence's greatest
+-- weight.
 --
 -- On a piece each occurrence stays in one row. Everything stands at the cell where a piece begins; at all other cells
 -- there is 0.
@@ -59,7 +60,8 @@ pub record IsSaid (cut : Cut) (t : Term) (l : ℤ) (from n : ℕ) (e : ℤ) (wei
   pub greatest : (o : ℕ) → o < names_in t
       → weight o ≡ most_below (behind (weight_at (segs_of (entries cut)) t l o) from) n
 
-pub record IsKeptAt (cut : Cut) (t : Term) (l : ℤ) (rs : List Reader) (offset : ℕ → ℕ) (kept : Kept) (c : ℕ) : Type 0 where
+pub record IsKeptAt (cut : Cut) (t : Term) (l : ℤ) (rs : List Reader) (offset : ℕ → ℕ) (kept : Kept) (c : ℕ)
+    : Type 0 where
   pub said : IsSaid cut t l (offset c) (offset (c + kept.lens c) - offset c) (kept.estimates c) (λ o. kept.weights o c)
   pub still : (o : ℕ) (row : Row) → o < names_in t → Has row (rows_read cut (reader_at rs o))
       → StaysIn (reader_at rs o).at (offset c) (offset (c + kept.lens c) - offset c) row
@@ -79,7 +81,8 @@ pub record AreOffsets (offset : ℕ → ℕ) (cells n : ℕ) : Type 0 where
   pub rising : (c d : ℕ) → c < d → d ≤ cells → offset c < offset d
 
 -- every piece of a sum is kept right
-pub record IsKept (cut : Cut) (t : Term) (l : ℤ) (n : ℕ) (rs : List Reader) (offset : ℕ → ℕ) (cells : ℕ) (kept : Kept) : Type 0 where
+pub record IsKept (cut : Cut) (t : Term) (l : ℤ) (n : ℕ) (rs : List Reader) (offset : ℕ → ℕ) (cells : ℕ) (kept : Kept)
+    : Type 0 where
   pub offsets : AreOffsets offset cells n
   pub tiled : AreTiled kept.lens cells
   pub pieces : (c : ℕ) → 0 < kept.lens c → IsKeptAt cut t l rs offset kept c
@@ -90,7 +93,8 @@ pub record SaysAfresh (cut : Cut) (t : Term) (l : ℤ) (n : ℕ) (offset : ℕ �
   pub charges : (name : List ℕ) (g : Seg) → Has g (segs_of (entries cut) name)
       → charge_by (kept_weight offset kept cells) t l name g
       ≡ charge_by (greatest_weight (segs_of (entries cut)) t l n) t l name g
-  pub error : AreDistinct (entries cut) → error_by (kept_weight offset kept cells) (entries cut) t l ≡ sum_error (entries cut) t l n
+  pub error : AreDistinct (entries cut)
+      → error_by (kept_weight offset kept cells) (entries cut) t l ≡ sum_error (entries cut) t l n
 
 abbrev pub KeptSaysAfresh : Type 0
 KeptSaysAfresh = (cut : Cut) (t : Term) (l : ℤ) (n : ℕ) (rs : List Reader) (offset : ℕ → ℕ) (cells : ℕ) (kept : Kept)

@@ -51,7 +51,8 @@ place_of cut i row = band_of cut i + row.seg.start / 16
 -- each row begins at a border of blocks and is charged at its place, and nothing else is
 pub record AreCharged (cut : Cut) (k : KeptSum) : Type 0 where
   pub room : band_of cut (length cut) ≤ length k.charges
-  pub borders : (i : ℕ) (row : Row) → i < length cut → Has row (track_at cut i).rows → (b : ℕ) × (row.seg.start ≡ 16 * b)
+  pub borders : (i : ℕ) (row : Row) → i < length cut → Has row (track_at cut i).rows
+      → (b : ℕ) × (row.seg.start ≡ 16 * b)
   pub each : (i : ℕ) (row : Row) → i < length cut → Has row (track_at cut i).rows
       → number k.charges (place_of cut i row) ≡ row_charge k i row
   pub others : (p : ℕ) → 0 < number k.charges p

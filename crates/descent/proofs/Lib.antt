@@ -43,3 +43,4 @@ pub mod SettleSteps
 pub mod Taking
 pub mod Anew
 pub mod KeptPicks
+pub mod PutSteps

@@ -12,9 +12,9 @@ use Rattle.error_prop.specs.declared.query.SumIn.{SumIn}
 use Rattle.semantics.specs.Value.{domain_of}
 use Rattle.error_prop.specs.declared.query.SumLine.{SumLine}
 use Rattle.error_prop.specs.Places.{end_of_name, IsShort}
-use Rattle.error_prop.specs.Queries.{lines_of}
+use Rattle.error_prop.specs.Queries.{lines_of, IsAdmittedWith}
 use Rattle.error_prop.specs.QueryOver.{range_over, sums_over, EachAdmitted}
-use Rattle.error_prop.proofs.QueryOverLaws.{each_admitted, near_sum}
+use Rattle.error_prop.proofs.QueryOverLaws.{admitted_over, each_admitted, near_sum}
 use Rattle.descent.specs.declared.Pick.{Pick}
 use Rattle.descent.specs.declared.cuts.Change.{Change}
 use Rattle.descent.specs.declared.cuts.State.{State}
@@ -24,15 +24,16 @@ use Rattle.descent.specs.Changed.{CanKeep}
 use Rattle.descent.specs.Charging.{weight_in, IsFirst}
 use Rattle.descent.specs.Choice.{charge, charged_rows, choice, heaviest, pick_if, row_of, At}
 use Rattle.descent.specs.CutFields.{restored_at, IsKeptAs}
-use Rattle.descent.specs.Held.{shown, Held}
+use Rattle.descent.specs.Held.{row_in, shown, Held}
 use Rattle.descent.specs.Keeping.{state_after, state_back, AreTakenOver, CanKeepAll}
 use Rattle.descent.specs.KeptSums.{AreKeptSums, IsKeptSum}
-use Rattle.descent.specs.Known.{facts_in}
+use Rattle.descent.specs.Known.{facts_in, AreApart}
 use Rattle.descent.specs.Laid.{held}
-use Rattle.descent.specs.Rows.{Cut, Track, entries}
-use Rattle.descent.specs.Sound.{IsFrameFor, IsSound}
+use Rattle.descent.specs.Rows.{Cut, Track, entries, with_rows}
+use Rattle.descent.specs.Sound.{name_of, IsFrameFor, IsSound, IsSoundTrack}
 use Rattle.descent.specs.Sums.{count_of, first_of, sum_in}
 use Rattle.descent.proofs.ChoiceLaws.{first-at, whole-count}
+use Rattle.descent.proofs.SoundLaws.{frames-for, shown-facts, shown-names}
 use Rattle.descent.proofs.Works.{counts}
 
 -- ---- an element at a place
@@ -177,6 +178,15 @@ can-all cut (mul p q) sound short plain adm each names depth near =
 pub can-keep-all : (cut : Cut) (q : QueryTerm) → IsSound cut → IsPlain q → IsWithinLimits q → IsAdmitted (facts_in cut) q → IsFrameFor cut q → CanKeepAll cut (sums_of q)
 can-keep-all cut q sound plain limits adm f =
     can-all cut q sound f.short plain adm (each_admitted f.admitted.facts (entries cut) q f.admitted.admitted f.admitted.known) limits.names limits.depth limits.near
+
+pub can-be-kept : {I : Type 0} → (ts : List (Track (Held I))) (q : QueryTerm) → length ts ≤ 16 → All IsSoundTrack (shown ts) → AreApart (map name_of ts) → IsPlain q → IsWithinLimits q → IsAdmitted (facts_in ts) q
+    → CanKeepAll (shown ts) (sums_of q) × IsAdmittedWith q (sums_over (entries (shown ts)) q)
+can-be-kept ts q few sound apart plain limits adm =
+    let f = frames-for ts q few sound apart adm in
+    let n = length-map ts (with_rows row_in) in
+    let is : IsSound (shown ts) = record { few = omega arith; tracks = sound; apart = subst AreApart (sym (shown-names ts)) apart } in
+    let a = subst (λ fs. IsAdmitted fs q) (sym (shown-facts ts)) adm in
+    (can-keep-all (shown ts) q is plain limits a f, admitted_over (entries (shown ts)) q f.frame plain f.admitted)
 
 -- ---- of which rows they are kept
 

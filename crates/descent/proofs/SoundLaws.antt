@@ -164,11 +164,11 @@ cuts_are_frames = λ cut q s admitted.
     }
 
 -- for the tracks of a cut with their ids
-shown-names : {I : Type 0} → (ts : List (Track (Held I))) → map name_of (shown ts) ≡ map name_of ts
+pub shown-names : {I : Type 0} → (ts : List (Track (Held I))) → map name_of (shown ts) ≡ map name_of ts
 shown-names [] = refl
 shown-names (t ∷ ts) = ap (λ ns. t.name ∷ ns) (shown-names ts)
 
-shown-facts : {I : Type 0} → (ts : List (Track (Held I))) → facts_in (shown ts) ≡ facts_in ts
+pub shown-facts : {I : Type 0} → (ts : List (Track (Held I))) → facts_in (shown ts) ≡ facts_in ts
 shown-facts [] = refl
 shown-facts (t ∷ ts) = ap (λ fs. fact_of t ∷ fs) (shown-facts ts)
 

@@ -22,7 +22,7 @@ returns-then-k-first t c =
       ]
     ] in
     let s : SumTerm = record { series = term_of c.sum_at.result.0.now; range = option_map range_of c.sum_at.result.1 } in
-    let h : At c.args.k s (sums_of p) = subst (λ (x : Query). At c.args.k s (sums_of (query_term_of x))) c.deref.ensures c.sum_at.ensures in
+    let h : At c.args.k s (sums_of p) = subst (λ (x : Query). At c.args.k s (sums_of (query_term_of x))) c.deref-then-k-first.ensures c.sum_at.ensures in
     subst (At c.args.k s) (sym e) (at-front c.args.k s (sums_of p) (sums_of q) h)
 
 pub returns-else-k-first : goal.returns-else-k-first

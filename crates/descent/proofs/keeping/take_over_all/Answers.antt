@@ -31,7 +31,7 @@ take_over-requires g c =
       changed = inv.1;
       can = can-at (shown c.args.tables.now) c.loop-k.k s (sums_of q) c.sum_at.ensures c.requires.can;
       series = refl;
-      kept = taken-at c.loop-k.k inv.0 (shown c.args.tables.now) s (sums_of q) c.loop-k.kept.items c.index_mut-sum.result.now c.sum_at.ensures inv.2 (sym c.index_mut-sum.ensures.value);
+      kept = taken-at c.loop-k.k inv.0 (shown c.args.tables.now) s (sums_of q) c.loop-k.kept.items c.index_mut-sum.result.now c.sum_at.ensures inv.2 c.index_mut-sum.ensures.value;
     })
 
 pub loop-k-preserved : goal.loop-k-preserved
@@ -39,7 +39,13 @@ loop-k-preserved g c =
     let q = query_term_of c.args.q.now in
     let inv = c.loop-k.invariant in
     let s : SumTerm = record { series = term_of c.sum_at.result.0.now; range = option_map range_of c.sum_at.result.1 } in
-    let is = (take_over-requires g c).1 in
+    let is : IsKeptBefore c.args.change.now.table (row_in (held c.args.change.now.row)) (shown c.args.tables.now) s.series s c.index_mut-sum.result.now = record {
+      before = inv.0;
+      changed = inv.1;
+      can = can-at (shown c.args.tables.now) c.loop-k.k s (sums_of q) c.sum_at.ensures c.requires.can;
+      series = refl;
+      kept = taken-at c.loop-k.k inv.0 (shown c.args.tables.now) s (sums_of q) c.loop-k.kept.items c.index_mut-sum.result.now c.sum_at.ensures inv.2 c.index_mut-sum.ensures.value;
+    } in
     let next : c.loop-k.k + 1 ≡ suc c.loop-k.k = omega arith in
     (inv.0, inv.1, rw next (taken-more c.loop-k.k inv.0 (shown c.args.tables.now) s (sums_of q) c.loop-k.kept.items c.take_over.new.self c.sum_at.ensures inv.2 (c.in_ok-take_over.ensures s is)))
 

@@ -143,7 +143,22 @@ up-split from r (h ∷ hs) f is = elim (cases_lt from is.left.row.seg.start) [
       let next = is.next in
       let left : Has is.left hs = later-is from h hs is.left f is.left_there (λ e. omega arith) in
       let right : Has is.right hs = later-is from h hs is.right f is.right_there (λ e. omega arith) in
-      behind-up (row_in (held r)) r h hs (up-split (from + h.row.seg.len) r hs f.2 (record is { left_there = left; right_there = right })) (restored-apart r h hs (λ e. omega arith))
+      let halves : AreHalvesOf r hs = record {
+        left = is.left;
+        right = is.right;
+        left_there = left;
+        right_there = right;
+        left_closed = is.left_closed;
+        right_closed = is.right_closed;
+        starts = is.starts;
+        half = is.half;
+        some = is.some;
+        full = is.full;
+        next = is.next;
+        rest = is.rest;
+        whole = is.whole;
+      } in
+      behind-up (row_in (held r)) r h hs (up-split (from + h.row.seg.len) r hs f.2 halves) (restored-apart r h hs (λ e. omega arith))
 ]
 
 given-up : {I : Type 0} → (r : TableRow I) (track : Track (Held I)) → CanGoBack r track.rows → IsSoundTrack (with_rows row_in track) → IsGivenUp (row_in (held r)) (map row_in (restored (held r) track.rows)) (map row_in track.rows)

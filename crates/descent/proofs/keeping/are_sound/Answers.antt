@@ -15,7 +15,7 @@ loop-i-preserved g c =
     let lt : i < length ts = omega arith in
     let next : i + 1 ≡ suc i = omega arith in
     let more = shown-more ts i t lt c.index-tables-i.is in
-    rw next (subst (All IsSoundTrack) (sym more) (All-append IsSoundTrack (shown (take i ts)) (with_rows row_in t ∷ []) c.loop-i.invariant (All-cons IsSoundTrack (with_rows row_in t) [] c.blocks.ensures.sound (All-nil IsSoundTrack))))
+    rw next (subst (All IsSoundTrack) (sym more) (All-append IsSoundTrack (shown (take i ts)) (with_rows row_in t ∷ []) c.loop-i.invariant (All-cons IsSoundTrack (with_rows row_in t) [] c.blocks-in-loop-i.ensures.sound (All-nil IsSoundTrack))))
 
 pub returns : goal.returns
 returns g c = subst (λ (us : List (Track (Held g.row.I.Denot))). All IsSoundTrack (shown us)) (take_all c.loop-i.i c.args.tables.now c.loop-i-test.false) c.loop-i.invariant

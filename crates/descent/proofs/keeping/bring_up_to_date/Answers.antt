@@ -13,7 +13,7 @@ use Rattle.descent.proofs.keeping.bring_up_to_date.Goals as goal
 pub take_over_all-requires-clause-before : goal.take_over_all-requires-clause-before
 take_over_all-requires-clause-before g c =
     let ts = c.args.tables.now in
-    let ch = c.in-Noted-Some.change.now in
+    let ch = c.in-Noted-Some.change in
     let ss = sums_of (query_term_of c.args.q.now) in
     let last : c.args.last.now ≡ Some ch = c.in-Noted-Some.is-1 in
     let back : CanGoBackAt ch.table ch.row ts = subst (CanBeTakenBack ts) last c.requires.back in

@@ -19,8 +19,8 @@ use Rattle.descent.proofs.keeping.combined.Goals as goal
 pub bring_up_to_date-requires-clause-can : goal.bring_up_to_date-requires-clause-can
 bring_up_to_date-requires-clause-can g c = (can-be-kept c.args.tables.now (query_term_of c.args.q.now) c.requires.series c.are_sound.ensures c.requires.apart c.requires.plain c.requires.limits c.requires.admitted).0
 
-pub combine-out-requires-clause-count : goal.combine-out-requires-clause-count
-combine-out-requires-clause-count g c =
+pub combine-requires-clause-count : goal.combine-requires-clause-count
+combine-requires-clause-count g c =
     let q = query_term_of c.args.q.now in
     let cut = shown c.args.tables.now in
     let can = can-be-kept c.args.tables.now q c.requires.series c.are_sound.ensures c.requires.apart c.requires.plain c.requires.limits c.requires.admitted in
@@ -28,8 +28,8 @@ combine-out-requires-clause-count g c =
     let sums : c.as_slice-2.result.now ≡ sums_over (entries cut) q = c.as_slice-2.ensures.value ∙ c.in_ok-sums.ensures cut (sums_of q) can.0 kept ∙ sums-are cut q c.requires.plain in
     ap length sums ∙ length-sums_over (entries cut) q c.requires.plain
 
-pub combine-out-requires-clause-admitted : goal.combine-out-requires-clause-admitted
-combine-out-requires-clause-admitted g c =
+pub combine-requires-clause-admitted : goal.combine-requires-clause-admitted
+combine-requires-clause-admitted g c =
     let q = query_term_of c.args.q.now in
     let cut = shown c.args.tables.now in
     let can = can-be-kept c.args.tables.now q c.requires.series c.are_sound.ensures c.requires.apart c.requires.plain c.requires.limits c.requires.admitted in

@@ -44,3 +44,4 @@ pub mod Taking
 pub mod Anew
 pub mod KeptPicks
 pub mod PutSteps
+pub mod CutSteps

@@ -202,6 +202,11 @@ kept-back Old xs ys last change ss ks is e h = tt
 kept-back Noted xs ys last change ss ks is e h = subst (λ (ts : List (Track (Held _))). AreKeptSums (shown ts) ss ks) e (subst (λ (o : Option (Change _)). IsKeptAs Noted xs o ss ks) is h)
 kept-back Current xs ys last change ss ks is e h = tt
 
+-- the same tracks and the same query, by other names
+pub same-kept : {I : Type 0} → (s : State) (xs ys : List (Track (Held I))) (last : Option (Change I)) (p q : QueryTerm) (ks : List KeptSum) → xs ≡ ys → p ≡ q → IsKeptAs s xs last (sums_of p) ks → IsKeptAs s ys last (sums_of q) ks
+same-kept s xs ys last p q ks tracks query h =
+    subst (λ (ts : List (Track (Held _))). IsKeptAs s ts last (sums_of q) ks) tracks (subst (λ (t : QueryTerm). IsKeptAs s xs last (sums_of t) ks) query h)
+
 -- ---- the choice
 
 pub chosen : (cut : Cut) (q : QueryTerm) (sums : List SumLine) (k : ℕ) (row : Option Pick) → IsPlain q → sums ≡ lines_of q (sums_over (entries cut) q) (counts cut q) → IsFirst (weight_in sums) (length sums) k

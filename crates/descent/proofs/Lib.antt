@@ -8,6 +8,8 @@ pub mod Values
 pub mod Places
 pub mod Owners
 pub mod Standing
+pub mod ReaderLaws
+pub mod SayLaws
 pub mod Backs
 pub mod Steps
 pub mod Tracks

@@ -47,3 +47,6 @@ pub mod Anew
 pub mod KeptPicks
 pub mod PutSteps
 pub mod CutSteps
+pub mod StartLaws
+pub mod Borders
+pub mod PieceSteps

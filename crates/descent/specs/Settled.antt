@@ -1,5 +1,5 @@
 -- What holds of a kept sum while its pieces are put right one after the other.
-use Rattle.std.specs.Prelude.{◌≡◌, ℕ, ◌+◌, ◌-◌, ◌^◌, ◌<◌, ◌≤◌, ◌⊎◌, true, false, ℤ, pos, ◌+ℤ◌, ◌≤ℤ◌, unsigned_abs, None, List, length, get_or}
+use Rattle.std.specs.Prelude.{◌≡◌, ℕ, ◌+◌, ◌*◌, ◌-◌, ◌^◌, ◌<◌, ◌≤◌, ◌⊎◌, true, false, ℤ, pos, ◌+ℤ◌, ◌≤ℤ◌, unsigned_abs, None, List, length, get_or}
 use Rattle.semantics.specs.Admission.{SumTerm}
 use Rattle.semantics.specs.Readings.{reading}
 use Rattle.semantics.specs.Term.{Term}
@@ -11,6 +11,7 @@ use Rattle.descent.specs.declared.kept.KeptSum.{KeptSum}
 use Rattle.descent.specs.declared.readers.Reader.{Reader}
 use Rattle.descent.specs.Cells.{AreCells, cells_in, offset_of}
 use Rattle.descent.specs.Changed.{CanKeep, HasChanged}
+use Rattle.descent.specs.Choice.{Has}
 use Rattle.descent.specs.Kept.{AreTiled, IsBlank, IsJoint, IsKeptAt}
 use Rattle.descent.specs.KeptSums.{kept_of, numbers_at, AreCharged, IsKeptSum}
 use Rattle.descent.specs.Readers.{reader_at, track_at, AreAligned, AreReadersOf}
@@ -133,3 +134,7 @@ pub record IsKeptBefore (i : ℕ) (row : Row) (now : Cut) (t : Term) (s : SumTer
   pub can : CanKeep now s
   pub series : s.series ≡ t
   pub kept : IsKeptSum before s k
+
+-- the rows of the tracks before the i-th begin at borders of blocks
+abbrev pub AreAtBorders : Cut → ℕ → Type 0
+AreAtBorders cut i = (j : ℕ) (row : Row) → j < i → Has row (track_at cut j).rows → (b : ℕ) × (row.seg.start ≡ 16 * b)

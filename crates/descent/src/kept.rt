@@ -18,7 +18,7 @@ ghost use Rattle.descent.specs.Laid.{held};
 ghost use Rattle.descent.specs.Readers.{reader_at};
 ghost use Rattle.descent.specs.Rows.{Cut};
 ghost use Rattle.descent.specs.Said.{AllStay};
-ghost use Rattle.descent.specs.Settled.{lens_of, AreJointsFor, AreReadIn, CanBeCharged, CanBeRead, CanSay, HasOtherWeights, IsJointOf, IsKeptBefore, IsOfSum, IsRightAt, IsSameAt, IsSameSum, IsSettled, IsShaped, IsTrimmed};
+ghost use Rattle.descent.specs.Settled.{lens_of, AreAtBorders, AreJointsFor, AreReadIn, CanBeCharged, CanBeRead, CanSay, HasOtherWeights, IsJointOf, IsKeptBefore, IsOfSum, IsRightAt, IsSameAt, IsSameSum, IsSettled, IsShaped, IsTrimmed};
 ghost use Rattle.descent.specs.Sound.{IsSound};
 
 use crate::cells::Cells;
@@ -83,6 +83,7 @@ fn band<I: Copy>(tables: &[Table<I>], i: usize) -> usize
     requires within { i ≤ length tables.now }
     ensures place { result ≡ band_of (shown tables.now) i }
     ensures bound { result ≤ 2 ^ 16 * i }
+    ensures borders { AreAtBorders (shown tables.now) i }
 {
     let mut band = 0;
     for j in 0..i {

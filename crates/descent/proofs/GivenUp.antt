@@ -1,8 +1,7 @@
 -- A cut of which one row gave way: names, ranges and places stay, and what is new lies within the row.
-use Rattle.std.proofs.Common.{◌≡◌, ℕ, zero, suc, ◌+◌, ◌*◌, ◌<◌, ◌≤◌, ◌⊎◌, Bool, true, false, cond, inl, inr, ℤ, pos, negsuc, ◌+ℤ◌, Option, Some, None, List, [], ◌∷◌, ◌++◌, length, map, refl, sym, ap, ap₂, subst, ◌∙◌, arith, append_assoc}
-use Rattle.std.specs.List.{All}
+use Rattle.std.proofs.Common.{◌≡◌, ℕ, suc, ◌+◌, ◌*◌, ◌<◌, ◌≤◌, Bool, true, false, cond, inl, inr, ℤ, pos, negsuc, Option, Some, None, List, [], ◌∷◌, ◌++◌, length, map, refl, sym, ap, ap₂, subst, ◌∙◌, arith, append_assoc}
 use Rattle.std.specs.Prelude.{◌&&◌, nat_le, nat_lt}
-use Rattle.std.proofs.lemmas.Bool.{cases_eq, cases_lt, cases_Bool}
+use Rattle.std.proofs.lemmas.Bool.{cases_eq, cases_Bool}
 use Rattle.std.proofs.lemmas.Bool.Decides.{nat_tests}
 use Rattle.semantics.specs.Admission.{SumTerm}
 use Rattle.semantics.specs.Names.{same_name}
@@ -13,7 +12,7 @@ use Rattle.bounds.specs.Segments.{covers, seg_at, OfEachName}
 use Rattle.error_prop.specs.Entries.{end_from}
 use Rattle.error_prop.specs.Places.{end_of_name}
 use Rattle.error_prop.proofs.QueryOverLaws.{same_domain}
-use Rattle.descent.specs.Changed.{AreHalvesOfRow, GaveWay, HasChanged, IsOpening}
+use Rattle.descent.specs.Changed.{GaveWay, HasChanged}
 use Rattle.descent.specs.Choice.{Has}
 use Rattle.descent.specs.Held.{head_of}
 use Rattle.descent.specs.KeptSums.{band_of, place_of}
@@ -25,7 +24,6 @@ use Rattle.descent.specs.Sound.{name_of, IsSound, IsSoundRow}
 use Rattle.descent.specs.Sums.{range_of}
 use Rattle.descent.proofs.Admits.{has-left, has-right}
 use Rattle.descent.proofs.Framing.{end_from-append}
-use Rattle.descent.proofs.SumLaws.{up-low}
 use Rattle.descent.proofs.TileLaws.{sum_below-same}
 use Rattle.descent.proofs.TrackLaws.{all-has, sound-at}
 
@@ -83,6 +81,7 @@ has-parts {P} row xs ys zs f g k h = first xs f h
     last [] m q = k q
     last (u ∷ us) m (inl e) = m (inl e)
     last (u ∷ us) m (inr q) = last us (λ p. m (inr p)) q
+
     first : (us : List Row) → (Has row us → P) → Has row (us ++ ys ++ zs) → P
     first [] m q = last ys g q
     first (u ∷ us) m (inl e) = m (inl e)
@@ -255,7 +254,7 @@ pub same-seg : (xs ys us zs : List Row) (z : ℤ) → ((g : Seg) → Has g (segs
 same-seg xs ys us zs z f k =
     ap (λ gs. seg_at gs z) (segs-parts xs ys zs)
     ∙ seg-front (segs_of_rows xs) (segs_of_rows ys ++ segs_of_rows zs) (segs_of_rows us ++ segs_of_rows zs) z
-      (seg-behind (segs_of_rows ys) (segs_of_rows zs) z f ∙ sym (seg-behind (segs_of_rows us) (segs_of_rows zs) z k))
+    (seg-behind (segs_of_rows ys) (segs_of_rows zs) z f ∙ sym (seg-behind (segs_of_rows us) (segs_of_rows zs) z k))
     ∙ sym (ap (λ gs. seg_at gs z) (segs-parts xs us zs))
 
 -- ---- lengths and ranges
@@ -279,16 +278,16 @@ row-positions d from row s = by row.readings refl
     by (Some xs) e =
         let long = (s.read xs e).long in
         let u : end_from 0 (units row.seg.start xs) ≡ length xs =
-            let m = end-more 0 row.seg.start (units row.seg.start xs) in
-            let z : 0 + row.seg.start ≡ row.seg.start = omega arith in
-            let n = units-end row.seg.start xs in
-            let k : end_from (0 + row.seg.start) (units row.seg.start xs) ≡ row.seg.start + length xs =
-                ap (λ q. end_from q (units row.seg.start xs)) z ∙ n in
-            omega arith in
+        let m = end-more 0 row.seg.start (units row.seg.start xs) in
+        let z : 0 + row.seg.start ≡ row.seg.start = omega arith in
+        let n = units-end row.seg.start xs in
+        let k : end_from (0 + row.seg.start) (units row.seg.start xs) ≡ row.seg.start + length xs =
+        ap (λ q. end_from q (units row.seg.start xs)) z ∙ n in
+        omega arith in
         let v : end_from from (units row.seg.start xs) ≡ length xs + from =
-            let z : from ≡ 0 + from = omega arith in
-            ap (λ q. end_from q (units row.seg.start xs)) z ∙ end-more 0 from (units row.seg.start xs)
-                ∙ ap (λ q. q + from) u in
+        let z : from ≡ 0 + from = omega arith in
+        ap (λ q. end_from q (units row.seg.start xs)) z ∙ end-more 0 from (units row.seg.start xs)
+        ∙ ap (λ q. q + from) u in
         rw e (v ∙ omega arith)
 
 new-positions : (d from : ℕ) (old : Row) (new : List Row) → GaveWay old new
@@ -324,14 +323,14 @@ track-end i old before now h sound j = elim (cases_eq j i) [
       let new = new-positions d front old h.new h.gave (new-sound i old before now h sound) in
       let old-row : end_from front (segs_of_row old) ≡ front + old.seg.len = rw h.closed refl in
       let was : end_from front (segs_of_rows (old ∷ [])) ≡ front + old.seg.len =
-          end_from-append front (segs_of_row old) [] ∙ old-row in
+      end_from-append front (segs_of_row old) [] ∙ old-row in
       let after : end_from 0 (segs_of_rows (h.front ++ h.new ++ h.back))
-          ≡ end_from 0 (segs_of_rows (h.front ++ (old ∷ []) ++ h.back)) =
-          parts-end 0 h.front h.new h.back ∙ ap (λ k. end_from k (segs_of_rows h.back)) (new ∙ sym was)
-          ∙ sym (parts-end 0 h.front (old ∷ []) h.back) in
+      ≡ end_from 0 (segs_of_rows (h.front ++ (old ∷ []) ++ h.back)) =
+      parts-end 0 h.front h.new h.back ∙ ap (λ k. end_from k (segs_of_rows h.back)) (new ∙ sym was)
+      ∙ sym (parts-end 0 h.front (old ∷ []) h.back) in
       let whole : end_from 0 (segs_of_rows (track_at now i).rows) ≡ end_from 0 (segs_of_rows (track_at before i).rows) =
-          ap (λ rows. end_from 0 (segs_of_rows rows)) h.is ∙ after
-          ∙ ap (λ rows. end_from 0 (segs_of_rows rows)) (append_assoc h.front (old ∷ []) h.back ∙ sym h.was) in
+      ap (λ rows. end_from 0 (segs_of_rows rows)) h.is ∙ after
+      ∙ ap (λ rows. end_from 0 (segs_of_rows rows)) (append_assoc h.front (old ∷ []) h.back ∙ sym h.was) in
       rw e whole
 ]
 
@@ -366,6 +365,6 @@ pub same-range : (i : ℕ) (old : Row) (before now : Cut) (s : SumTerm) → HasC
     → range_of now s ≡ range_of before s
 same-range i old before now s h sound =
     ap (range_or s.range) (same_domain (end_of_name (entries now)) (end_of_name (entries before)) s.series
-      (each-of (λ name. end_of_name (entries now) name ≡ end_of_name (entries before) name) s.series
-        (λ name. ends-from before now name h.count (same-name i old before now h)
-            (track-end i old before now h sound))))
+    (each-of (λ name. end_of_name (entries now) name ≡ end_of_name (entries before) name) s.series
+    (λ name. ends-from before now name h.count (same-name i old before now h)
+    (track-end i old before now h sound))))

@@ -1,5 +1,5 @@
 -- What is kept by pieces is what a cut says position by position.
-use Rattle.std.proofs.Common.{◌≡◌, ℕ, zero, suc, ◌+◌, ◌-◌, ◌*◌, ◌<◌, ◌≤◌, cond, Bool, true, false, inl, inr, ℤ, pos, ◌+ℤ◌, List, [], ◌∷◌, refl, sym, ap, ap₂, subst, ◌∙◌, arith}
+use Rattle.std.proofs.Common.{◌≡◌, ℕ, ◌+◌, ◌-◌, ◌*◌, ◌<◌, cond, Bool, true, false, inl, inr, ℤ, pos, ◌+ℤ◌, List, [], ◌∷◌, refl, sym, ap, ap₂, subst, ◌∙◌, arith}
 use Rattle.std.specs.List.{sum_by}
 use Rattle.std.proofs.lemmas.Bool.{cases_lt}
 use Rattle.std.proofs.lemmas.List.Sums.{sum_by-cons}
@@ -32,11 +32,11 @@ piece-most w g at from len most some is still = by (covers g (at +ℤ pos from))
         → cond b most 0 ≡ most_below (behind (weight_in w at g) from) len
     by true e =
         let each : (i : ℕ) → i < len → behind w from i ≡ behind (weight_in w at g) from i =
-            λ i lt. sym (ap (λ b. cond b (w (from + i)) 0) (still i lt ∙ e)) in
+        λ i lt. sym (ap (λ b. cond b (w (from + i)) 0) (still i lt ∙ e)) in
         is ∙ most_below-same (behind w from) (behind (weight_in w at g) from) len each
     by false e =
         sym (most_below-none (behind (weight_in w at g) from) len
-          (λ i lt. ap (λ b. cond b (w (from + i)) 0) (still i lt ∙ e)))
+        (λ i lt. ap (λ b. cond b (w (from + i)) 0) (still i lt ∙ e)))
 
 free : (b : Bool) (k : ℕ) → k ≡ 0 → cond b k 0 ≡ 0
 free true k e = e
@@ -53,11 +53,11 @@ row-most cut t l n rs offset cells kept o row is below there =
     tiles-most kept.lens offset (kept_in offset (kept.weights o) at row.seg) (weight_in w at row.seg) cells n
     is.offsets is.tiled
     (λ c some.
-      let piece = is.pieces c some in
-      let within = (is.tiled.each c some).within in
-      let up = is.offsets.rising c (c + kept.lens c) (omega arith) within in
-      piece-most w row.seg at (offset c) (offset (c + kept.lens c) - offset c) (kept.weights o c) (omega arith)
-      (piece.said.greatest o below) (piece.still o row below there))
+    let piece = is.pieces c some in
+    let within = (is.tiled.each c some).within in
+    let up = is.offsets.rising c (c + kept.lens c) (omega arith) within in
+    piece-most w row.seg at (offset c) (offset (c + kept.lens c) - offset c) (kept.weights o c) (omega arith)
+    (piece.said.greatest o below) (piece.still o row below there))
     (λ c none. free (covers row.seg (at +ℤ pos (offset c))) (kept.weights o c) ((is.blank c none).weights o))
 
 -- ---- charges
@@ -91,15 +91,15 @@ kept-part cut t l n rs offset cells kept name g o sound readers is there below =
         let r = readers.each o below in
         let k = (reader_at rs o).track in
         let same : name ≡ (track_at cut k).name =
-            (bytes_eq-Decides name (occurrence_at t l o).name).0 e ∙ sym r.name in
+        (bytes_eq-Decides name (occurrence_at t l o).name).0 e ∙ sym r.name in
         let own : Has g (segs_of_rows (track_at cut k).rows) =
-            subst (Has g) (segs-of-track cut k sound.apart r.track)
-            (subst (λ x. Has g (segs_of (entries cut) x)) same there) in
+        subst (Has g) (segs-of-track cut k sound.apart r.track)
+        (subst (λ x. Has g (segs_of (entries cut) x)) same there) in
         let f = row-of (track_at cut k).rows g some own in
         let m = row-most cut t l n rs offset cells kept o f.row is below f.there in
         let moved : kept_weight offset kept cells o (occurrence_at t l o).at g
-            ≡ greatest_weight (segs_of (entries cut)) t l n o (occurrence_at t l o).at g =
-            rw (f.same, ← r.at) m in
+        ≡ greatest_weight (segs_of (entries cut)) t l n o (occurrence_at t l o).at g =
+        rw (f.same, ← r.at) m in
         ap (λ w. g.l * w) moved
 
 pub kept-charge : (cut : Cut) (t : Term) (l : ℤ) (n : ℕ) (rs : List Reader) (offset : ℕ → ℕ) (cells : ℕ) (kept : Kept)
@@ -141,8 +141,8 @@ kept-error cut t l n rs offset cells kept sound readers is d =
     let v = greatest_weight (segs_of es) t l n in
     sum_by-has (entry_error w t l) (entry_error v t l) es
     (λ e m. sum_by-has (charge_by w t l e.name) (charge_by v t l e.name) e.segs
-      (λ g there. kept-charge cut t l n rs offset cells kept e.name g sound readers is
-        (subst (Has g) (sym (found-segs es e d m)) there)))
+    (λ g there. kept-charge cut t l n rs offset cells kept e.name g sound readers is
+    (subst (Has g) (sym (found-segs es e d m)) there)))
 
 pub kept_says_afresh : KeptSaysAfresh
 kept_says_afresh = λ cut t l n rs offset cells kept sound readers is. record {

@@ -62,9 +62,9 @@ site-is i (track ∷ tracks) st h =
     site-in-map i track.rows (sites_from (i + 1) tracks) st (IsSiteIn i (track ∷ tracks) st)
     (λ e m. record { place = 0; below = omega arith; track = omega arith; there = m })
     (λ m. let s = site-is (i + 1) tracks st m in
-      let t = s.track in
-      let below = s.below in
-      record { place = suc s.place; below = omega arith; track = omega arith; there = s.there })
+    let t = s.track in
+    let below = s.below in
+    record { place = suc s.place; below = omega arith; track = omega arith; there = s.there })
     h
 
 map-has : (i : ℕ) (row : Row) (rows : List Row) → Has row rows → Has (site i row) (map (site i) rows)
@@ -119,7 +119,7 @@ go-rows cut i (row ∷ rows) ys from low len t some borders le u =
     let here : row.seg.start / 16 ≡ b.0 = omega arith in
     let long = some row (inl refl) in
     let rest = go-rows cut i rows ys (from + row.seg.len) (b.0 + 1) len t.1 (λ r h. some r (inr h))
-        (λ r h. borders r (inr h)) (omega arith) u in
+    (λ r h. borders r (inr h)) (omega arith) u in
     let next : band_of cut i + (b.0 + 1) ≡ band_of cut i + row.seg.start / 16 + 1 = omega arith in
     (omega arith, subst (λ k. GoUp (place_in cut) k (map (site i) rows ++ ys)) next rest)
 
@@ -129,16 +129,16 @@ go-tracks cut i [] are sound borders = tt
 go-tracks cut i (track ∷ tracks) are sound borders =
     let s = All-head IsSoundTrack track tracks sound in
     let rest = go-tracks cut (i + 1) tracks (from-next cut i track tracks are)
-        (All-tail IsSoundTrack track tracks sound) (λ j row lt h. borders (suc j) row (omega arith) h) in
+    (All-tail IsSoundTrack track tracks sound) (λ j row lt h. borders (suc j) row (omega arith) h) in
     let e : i + 1 ≡ suc i = omega arith in
     let len : blocks (track_at cut i).len ≡ blocks track.len =
-        ap (λ (t : Track Row). blocks t.len) (from-first cut i track tracks are) in
+    ap (λ (t : Track Row). blocks t.len) (from-first cut i track tracks are) in
     let band : band_of cut (i + 1) ≡ band_of cut i + blocks track.len =
-        ap (band_of cut) e ∙ ap (λ k. band_of cut i + k) len in
+    ap (band_of cut) e ∙ ap (λ k. band_of cut i + k) len in
     let all = go-rows cut i track.rows (sites_from (i + 1) tracks) 0 0 track.len s.touch
-        (λ row h. (all-has (IsSoundRow track.greatest) track.rows row s.rows h).some)
-        (λ row h. borders 0 row (omega arith) h) (omega arith)
-        (subst (λ k. GoUp (place_in cut) k (sites_from (i + 1) tracks)) band rest) in
+    (λ row h. (all-has (IsSoundRow track.greatest) track.rows row s.rows h).some)
+    (λ row h. borders 0 row (omega arith) h) (omega arith)
+    (subst (λ k. GoUp (place_in cut) k (sites_from (i + 1) tracks)) band rest) in
     go-up-weaken (place_in cut) (band_of cut i + 0) (band_of cut i) (sites_from i (track ∷ tracks)) (omega arith) all
 
 pub places-go-up : (cut : Cut) → All IsSoundTrack cut → AreOnBorders cut → GoUp (place_in cut) 0 (sites cut)
@@ -190,9 +190,9 @@ rows-sum cut s i track [] e = refl
 rows-sum cut s i track (row ∷ rows) e =
     let f = charge_by (weight_for cut s) s.series (first_of cut s) track.name in
     let here : charge_at cut s (site i row) ≡ sum_by f (segs_of_row row) =
-        ap (λ (t : Track Row). charge_of cut s t.name row) e in
+    ap (λ (t : Track Row). charge_of cut s t.name row) e in
     ap₂ (λ a b. a + b) here (rows-sum cut s i track rows e)
-        ∙ sym (sum_by-append f (segs_of_row row) (segs_of_rows rows))
+    ∙ sym (sum_by-append f (segs_of_row row) (segs_of_rows rows))
 
 tracks-sum : (cut : Cut) (s : SumTerm) (i : ℕ) (tracks : List (Track Row)) → AreFrom cut i tracks
     → sum_over (charge_at cut s) (sites_from i tracks)
@@ -201,7 +201,7 @@ tracks-sum cut s i [] are = refl
 tracks-sum cut s i (track ∷ tracks) are =
     sum_over-append (charge_at cut s) (map (site i) track.rows) (sites_from (i + 1) tracks)
     ∙ ap₂ (λ a b. a + b) (rows-sum cut s i track track.rows (from-first cut i track tracks are))
-      (tracks-sum cut s (i + 1) tracks (from-next cut i track tracks are))
+    (tracks-sum cut s (i + 1) tracks (from-next cut i track tracks are))
     ∙ sym (sum_by-cons (entry_error (weight_for cut s) s.series (first_of cut s)) (entry_of track) (entries tracks))
 
 pub charges-sum : (cut : Cut) (s : SumTerm)
@@ -251,4 +251,4 @@ pub heaviest-site : (cut : Cut) (s : SumTerm)
     → heaviest charge (charged_rows cut s) ≡ option_map (charged_at cut s) (heaviest (charge_at cut s) (sites cut))
 heaviest-site cut s =
     ap (heaviest charge) (tracks-charged cut s 0 cut (from-start cut))
-        ∙ heaviest-map charge (charged_at cut s) (sites cut)
+    ∙ heaviest-map charge (charged_at cut s) (sites cut)

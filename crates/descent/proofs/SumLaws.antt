@@ -155,7 +155,7 @@ places-from : {A : Type 0} → (place weight : A → ℕ) (from : ℕ) (xs : Lis
     → ((x : A) → Has x xs → place x < from + m) → sum_below (from_place ns from) m ≡ sum_over weight xs
 places-from place weight from [] ns m u each others within =
     sum_below-none (from_place ns from) m (λ j lt. not-some (number ns (from + j))
-      (λ some. let c = others (from + j) (omega arith) some in absurd c.1))
+    (λ some. let c = others (from + j) (omega arith) some in absurd c.1))
 places-from place weight from (c ∷ cs) ns m u each others within =
     let low = u.0 in
     let high = within c (inl refl) in
@@ -163,23 +163,23 @@ places-from place weight from (c ∷ cs) ns m u each others within =
     let rest = m - (a + 1) in
     let e : m ≡ a + (1 + rest) = omega arith in
     let front : sum_below (from_place ns from) a ≡ 0 =
-        sum_below-none (from_place ns from) a (λ j lt. not-some (number ns (from + j)) (λ some.
-          let d = others (from + j) (omega arith) some in
-          let p = up-low place (place c) (c ∷ cs) d.0 (omega arith, u.1) d.1 in
-          let q = d.2 in
-          omega arith)) in
+    sum_below-none (from_place ns from) a (λ j lt. not-some (number ns (from + j)) (λ some.
+    let d = others (from + j) (omega arith) some in
+    let p = up-low place (place c) (c ∷ cs) d.0 (omega arith, u.1) d.1 in
+    let q = d.2 in
+    omega arith)) in
     let here : number ns (from + a) ≡ weight c =
-        let p : from + a ≡ place c = omega arith in rw p (each c (inl refl)) in
+    let p : from + a ≡ place c = omega arith in rw p (each c (inl refl)) in
     let later = places-from place weight (place c + 1) cs ns rest u.1 (λ d h. each d (inr h))
-      (λ i le some. let d = others i (omega arith) some in elim d.1 [
-        | inl q ↦ let p : place c ≡ i = subst (λ k. place k ≡ i) q d.2 in absurd (omega arith)
-        | inr h ↦ (d.0, h, d.2)
-      ])
-      (λ d h. let w = within d (inr h) in omega arith) in
+    (λ i le some. let d = others i (omega arith) some in elim d.1 [
+      | inl q ↦ let p : place c ≡ i = subst (λ k. place k ≡ i) q d.2 in absurd (omega arith)
+      | inr h ↦ (d.0, h, d.2)
+    ])
+    (λ d h. let w = within d (inr h) in omega arith) in
     let first = sum_below-split (from_place ns from) (from_place ns (from + a)) a (1 + rest)
-      (λ j. ap (number ns) (omega arith)) in
+    (λ j. ap (number ns) (omega arith)) in
     let second = sum_below-split (from_place ns (from + a)) (from_place ns (place c + 1)) 1 rest
-      (λ j. ap (number ns) (omega arith)) in
+    (λ j. ap (number ns) (omega arith)) in
     let z : from + a + 0 ≡ from + a = omega arith in
     let one : sum_below (from_place ns (from + a)) 1 ≡ weight c = rw z (omega (arith, here)) in
     rw e (omega (arith, first, second, front, one, later))
@@ -191,7 +191,7 @@ pub places-sum : {A : Type 0} → (place weight : A → ℕ) (xs : List A) (ns :
 places-sum place weight xs ns n are within =
     same (number ns) (from_place ns 0) n (λ j. ap (number ns) (omega arith))
     ∙ places-from place weight 0 xs ns n are.order are.each (λ i le some. are.others i some)
-      (λ x h. let w = within x h in omega arith)
+    (λ x h. let w = within x h in omega arith)
   where
     same : (f g : ℕ → ℕ) (n : ℕ) → ((j : ℕ) → f j ≡ g j) → sum_below f n ≡ sum_below g n
     same f g zero h = refl

@@ -109,13 +109,13 @@ tail-most lens offset f w cells n are tiled piece blank (suc fuel) c long le (in
     let i = tail-most lens offset f w cells n are tiled piece blank fuel (c + len) (omega arith) p.within p.next in
     let z : c + 0 ≡ c = omega arith in
     let here : most_below (behind f c) len ≡ most_below (behind w (offset c)) wide =
-        most_below-one (behind f c) len (most_below (behind w (offset c)) wide) some (ap f z ∙ piece c some)
-        (λ j low high. blank (c + j) (p.inside j low high)) in
+    most_below-one (behind f c) len (most_below (behind w (offset c)) wide) some (ap f z ∙ piece c some)
+    (λ j low high. blank (c + j) (p.inside j low high)) in
     let cells-moved : most_below (behind (behind f c) len) m ≡ most_below (behind f (c + len)) m =
-        most_below-same (behind (behind f c) len) (behind f (c + len)) m (λ j lt. ap f (omega arith)) in
+    most_below-same (behind (behind f c) len) (behind f (c + len)) m (λ j lt. ap f (omega arith)) in
     let offsets-moved : most_below (behind (behind w (offset c)) wide) k ≡ most_below (behind w (offset (c + len))) k =
-        most_below-same (behind (behind w (offset c)) wide) (behind w (offset (c + len))) k
-            (λ j lt. ap w (omega arith)) in
+    most_below-same (behind (behind w (offset c)) wide) (behind w (offset (c + len))) k
+    (λ j lt. ap w (omega arith)) in
     ap (most_below (behind f c)) s.rest
     ∙ most_below-split (behind f c) len m
     ∙ ap₂ max here (cells-moved ∙ i ∙ sym offsets-moved)
@@ -144,14 +144,14 @@ tail-total lens offset f w cells n are tiled piece blank (suc fuel) c long le (i
     let i = tail-total lens offset f w cells n are tiled piece blank fuel (c + len) (omega arith) p.within p.next in
     let z : c + 0 ≡ c = omega arith in
     let here : total_below (behind f c) len ≡ total_below (behind w (offset c)) wide =
-        total_below-one (behind f c) len (total_below (behind w (offset c)) wide) some (ap f z ∙ piece c some)
-        (λ j low high. blank (c + j) (p.inside j low high)) in
+    total_below-one (behind f c) len (total_below (behind w (offset c)) wide) some (ap f z ∙ piece c some)
+    (λ j low high. blank (c + j) (p.inside j low high)) in
     let cells-moved : total_below (behind (behind f c) len) m ≡ total_below (behind f (c + len)) m =
-        total_below-same (behind (behind f c) len) (behind f (c + len)) m (λ j lt. ap f (omega arith)) in
+    total_below-same (behind (behind f c) len) (behind f (c + len)) m (λ j lt. ap f (omega arith)) in
     let offsets-moved : total_below (behind (behind w (offset c)) wide) k
-        ≡ total_below (behind w (offset (c + len))) k =
-        total_below-same (behind (behind w (offset c)) wide) (behind w (offset (c + len))) k
-            (λ j lt. ap w (omega arith)) in
+    ≡ total_below (behind w (offset (c + len))) k =
+    total_below-same (behind (behind w (offset c)) wide) (behind w (offset (c + len))) k
+    (λ j lt. ap w (omega arith)) in
     ap (total_below (behind f c)) s.rest
     ∙ total_below-split (behind f c) len m
     ∙ ap₂ (λ a b. a +ℤ b) here (cells-moved ∙ i ∙ sym offsets-moved)
@@ -169,7 +169,7 @@ pub tiles-most : (lens offset f w : ℕ → ℕ) (cells n : ℕ) → AreOffsets 
     → ((c : ℕ) → lens c ≡ 0 → f c ≡ 0) → most_below f cells ≡ most_below w n
 tiles-most lens offset f w cells n are tiled piece blank =
     let t = tail-most lens offset f w cells n are tiled piece blank cells 0 (omega arith) (omega arith)
-        (start lens cells tiled) in
+    (start lens cells tiled) in
     let first = are.first in
     let all : cells ≡ cells - 0 = omega arith in
     let whole : n - offset 0 ≡ n = omega arith in
@@ -183,7 +183,7 @@ pub tiles-total : (lens offset : ℕ → ℕ) (f w : ℕ → ℤ) (cells n : ℕ
     → ((c : ℕ) → lens c ≡ 0 → f c ≡ pos 0) → total_below f cells ≡ total_below w n
 tiles-total lens offset f w cells n are tiled piece blank =
     let t = tail-total lens offset f w cells n are tiled piece blank cells 0 (omega arith) (omega arith)
-        (start lens cells tiled) in
+    (start lens cells tiled) in
     let first = are.first in
     let all : cells ≡ cells - 0 = omega arith in
     let whole : n - offset 0 ≡ n = omega arith in

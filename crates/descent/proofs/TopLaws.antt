@@ -34,7 +34,7 @@ heaviest-at place w from (y ∷ xs) x u (inr h) some most first =
     let low = up-low place (place y + 1) xs x u.1 h in
     let lt = first y (inl refl) (omega arith) in
     ap (heavier w y) (heaviest-at place w (place y + 1) xs x u.1 h some (λ z m. most z (inr m))
-      (λ z m p. first z (inr m) p))
+    (λ z m p. first z (inr m) p))
     ∙ heavier-second w y x lt
 
 pub none-at : {A : Type 0} → (w : A → ℕ) (xs : List A) → ((x : A) → Has x xs → w x ≡ 0) → heaviest w xs ≡ None
@@ -49,10 +49,14 @@ pub top-is-heaviest : {A : Type 0} → (place w : A → ℕ) (xs : List A) (ns :
 top-is-heaviest place w xs ns at is top = record {
   some = λ some.
       let x = is.others at some in
-      let own : number ns at ≡ w x.0 = ap (number ns) (sym x.2) ∙ is.each x.0 x.1 in
-      (x.0, x.1, x.2, heaviest-at place w 0 xs x.0 is.order x.1 (omega arith)
-        (λ y m. omega (arith, top.most (place y), is.each y m))
-        (λ y m lt. let p : place y < at = subst (λ k. place y < k) x.2 lt in
-          omega (arith, top.first (place y) p, is.each y m)));
+      let own : number ns at ≡ w x.0 = ap (number ns) (sym x.2) ∙ is.each x.0 x.1 in (
+        x.0,
+        x.1,
+        x.2,
+        heaviest-at place w 0 xs x.0 is.order x.1 (omega arith)
+            (λ y m. omega (arith, top.most (place y), is.each y m))
+            (λ y m lt. let p : place y < at = subst (λ k. place y < k) x.2 lt in
+            omega (arith, top.first (place y) p, is.each y m)),
+      );
   none = λ z. none-at w xs (λ y m. omega (arith, top.most (place y), is.each y m));
 }

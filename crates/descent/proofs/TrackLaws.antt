@@ -1,16 +1,16 @@
 -- The tracks of a sound cut: their names are apart, and the segments of a name are those of the rows of its track.
-use Rattle.std.proofs.Common.{◌≡◌, ℕ, zero, suc, ◌+◌, ◌<◌, ◌≤◌, Bool, true, false, cond, inl, inr, ℤ, Option, Some, None, List, [], ◌∷◌, ◌++◌, length, map, refl, sym, ap, subst, ◌∙◌, arith}
+use Rattle.std.proofs.Common.{◌≡◌, ℕ, zero, suc, ◌+◌, ◌<◌, true, false, cond, inl, inr, ℤ, Option, Some, None, List, [], ◌∷◌, ◌++◌, length, map, refl, sym, ap, subst, ◌∙◌, arith}
 use Rattle.std.specs.List.{All}
 use Rattle.std.proofs.lemmas.Bool.{cases_Bool}
 use Rattle.std.proofs.lemmas.List.Elements.{All-head, All-tail}
 use Rattle.std.proofs.lemmas.Slice.Eq.{bytes_eq-Decides}
 use Rattle.semantics.specs.Names.{same_name}
 use Rattle.segment.specs.declared.segments.Seg.{Seg}
-use Rattle.bounds.specs.Cut.{segs_of, AreDistinct, Entry, IsNew}
+use Rattle.bounds.specs.Cut.{segs_of, AreDistinct, IsNew}
 use Rattle.descent.specs.Choice.{Has}
 use Rattle.descent.specs.Known.{AreApart}
 use Rattle.descent.specs.Readers.{track_at}
-use Rattle.descent.specs.Rows.{entries, segs_given, segs_of_row, segs_of_rows, units, Cut, Row, Track}
+use Rattle.descent.specs.Rows.{entries, segs_given, segs_of_rows, units, Cut, Row}
 use Rattle.descent.specs.Sound.{name_of, IsSoundTrack}
 
 -- ---- names
@@ -48,7 +48,7 @@ is-new : (name : List ℕ) (cut : Cut) → All (λ other. same_name other name �
 is-new name [] all = tt
 is-new name (track ∷ cut) all = (
   All-head (λ other. same_name other name ≡ false) track.name (map name_of cut) all,
-  is-new name cut (All-tail (λ other. same_name other name ≡ false) track.name (map name_of cut) all)
+  is-new name cut (All-tail (λ other. same_name other name ≡ false) track.name (map name_of cut) all),
 )
 
 pub distinct : (cut : Cut) → AreApart (map name_of cut) → AreDistinct (entries cut)

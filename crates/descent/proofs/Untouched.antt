@@ -1,14 +1,13 @@
 -- A row gave way to those below it: what is kept of a sum stays right where that row was not read.
-use Rattle.std.proofs.Common.{◌≡◌, ℕ, zero, suc, ◌+◌, ◌-◌, ◌*◌, ◌/◌, ◌<◌, ◌≤◌, ◌⊎◌, Bool, true, false, inl, inr, ℤ, pos, ◌+ℤ◌, Option, None, List, [], ◌∷◌, ◌++◌, length, map, get_or, refl, sym, ap, ap₂, subst, ◌∙◌, arith, append_assoc}
+use Rattle.std.proofs.Common.{◌≡◌, ℕ, zero, suc, ◌+◌, ◌-◌, ◌*◌, ◌/◌, ◌<◌, ◌⊎◌, true, false, inl, inr, ℤ, pos, ◌+ℤ◌, None, List, [], ◌∷◌, ◌++◌, length, map, get_or, refl, sym, ap, ap₂, subst, ◌∙◌, arith, append_assoc}
 use Rattle.std.proofs.lemmas.Bool.{cases_eq, cases_lt, cases_Bool}
-use Rattle.std.proofs.lemmas.Int.{ints}
 use Rattle.std.proofs.Math.ListN.{get_or-map}
 use Rattle.semantics.specs.Admission.{SumTerm}
 use Rattle.semantics.specs.Measures.{names_in}
 use Rattle.semantics.specs.Readings.{positions_in}
 use Rattle.semantics.specs.Term.{Range, Term}
 use Rattle.segment.specs.declared.segments.Seg.{Seg}
-use Rattle.bounds.specs.Cut.{estimate_from, no_occurrence, no_use, occurrence_at, occurrences, segs_of, weight_at, weight_of, Occurrence}
+use Rattle.bounds.specs.Cut.{estimate_from, no_occurrence, no_use, occurrence_at, occurrences, segs_of, weight_at, weight_of}
 use Rattle.bounds.specs.Form.{form, Form}
 use Rattle.bounds.specs.Segments.{covers, seg_at}
 use Rattle.bounds.specs.Shape.{estimate_by, read_by, reads, shape, weight_in_use}
@@ -21,13 +20,13 @@ use Rattle.descent.specs.Cells.{offset_of}
 use Rattle.descent.specs.Changed.{CanKeep, HasChanged}
 use Rattle.descent.specs.Charges.{place_in, site, sites, AreRecharged, GoUp, Site}
 use Rattle.descent.specs.Choice.{Has}
-use Rattle.descent.specs.Kept.{behind, IsKeptAt, IsSaid, Kept, StaysIn}
+use Rattle.descent.specs.Kept.{behind, IsKeptAt, Kept, StaysIn}
 use Rattle.descent.specs.KeptSums.{band_of, kept_of, place_of, row_charge, AreCharged, IsKeptBut, IsKeptSum}
-use Rattle.descent.specs.Readers.{reader_at, rows_read, track_at, AreReadersOf, IsReaderOf}
-use Rattle.descent.specs.Rows.{entries, segs_of_row, segs_of_rows, Cut, Row, Track}
+use Rattle.descent.specs.Readers.{reader_at, rows_read, track_at, AreReadersOf}
+use Rattle.descent.specs.Rows.{entries, segs_of_rows, Cut, Row, Track}
 use Rattle.descent.specs.Sound.{IsSound}
 use Rattle.descent.specs.Sums.{count_of, first_of, range_of}
-use Rattle.descent.proofs.GivenUp.{apart-before, first-new, has-parts, in-back, in-front, in-middle, itself, new-borders, new-in, new-sound, not-in, row-segs-in, same-band, same-heads, same-len, same-name, same-place, same-range, same-seg, segs-have, LiesIn}
+use Rattle.descent.proofs.GivenUp.{apart-before, first-new, has-parts, in-back, in-front, in-middle, new-borders, new-in, new-sound, not-in, row-segs-in, same-band, same-len, same-name, same-place, same-range, same-seg, segs-have}
 use Rattle.descent.proofs.SiteLaws.{places-go-up, site-has}
 use Rattle.descent.proofs.SumLaws.{up-low}
 use Rattle.descent.proofs.TileLaws.{most_below-same, total_below-same}
@@ -56,7 +55,7 @@ say-the-same C B t l j e =
     let c = form_by_reads C t i in
     let b = form_by_reads B t i in
     let weights : map weight_in_use (form C t i).uses ≡ map weight_in_use (form B t i).uses =
-        c.weights ∙ ap (λ gs. (shape t gs).weights) e ∙ sym b.weights in
+    c.weights ∙ ap (λ gs. (shape t gs).weights) e ∙ sym b.weights in
     record {
       estimate = c.estimate ∙ ap (λ gs. estimate_by t gs i) e ∙ sym b.estimate;
       weights = λ o. sym (weight-in (form C t i) o) ∙ ap (λ ws. get_or ws o 0) weights ∙ weight-in (form B t i) o;
@@ -75,16 +74,16 @@ map-map {A} {B} {D} f g (x ∷ xs) = ap (λ (ys : List D). f (g x) ∷ ys) (map-
 -- the segments that are read, occurrence by occurrence
 same-reads : (C B : List ℕ → List Seg) (t : Term) (l : ℤ) (j : ℕ)
     → ((o : ℕ) → o < names_in t → seg_at (C (occurrence_at t l o).name) ((occurrence_at t l o).at +ℤ pos j)
-      ≡ seg_at (B (occurrence_at t l o).name) ((occurrence_at t l o).at +ℤ pos j))
+    ≡ seg_at (B (occurrence_at t l o).name) ((occurrence_at t l o).at +ℤ pos j))
     → reads C t (l +ℤ pos j) ≡ reads B t (l +ℤ pos j)
 same-reads C B t l j h =
     let n = length-occurrences t l in
     let c : reads C t (l +ℤ pos j) ≡ map (λ x. read_by C (moved j x)) (occurrences t l) =
-        ap (map (read_by C)) (occurrences-later t l j) ∙ map-map (read_by C) (moved j) (occurrences t l) in
+    ap (map (read_by C)) (occurrences-later t l j) ∙ map-map (read_by C) (moved j) (occurrences t l) in
     let b : reads B t (l +ℤ pos j) ≡ map (λ x. read_by B (moved j x)) (occurrences t l) =
-        ap (map (read_by B)) (occurrences-later t l j) ∙ map-map (read_by B) (moved j) (occurrences t l) in
+    ap (map (read_by B)) (occurrences-later t l j) ∙ map-map (read_by B) (moved j) (occurrences t l) in
     c ∙ map-each (λ x. read_by C (moved j x)) (λ x. read_by B (moved j x)) (occurrences t l) no_occurrence
-      (λ o lt. h o (omega arith)) ∙ sym b
+    (λ o lt. h o (omega arith)) ∙ sym b
 
 -- ---- readers
 
@@ -112,9 +111,9 @@ new-passed : (i : ℕ) (old : Row) (before now : Cut) → (h : HasChanged i old 
 new-passed i old before now h sound z passed g there =
     segs-have h.new g
     (λ row m q.
-      let s = new-sound i old before now h sound row m in
-      let a = row-segs-in (track_at now i).greatest row g s q in
-      not-in g row.seg z a (not-in row.seg old.seg z (new-in old h.new h.gave row m) passed))
+    let s = new-sound i old before now h sound row m in
+    let a = row-segs-in (track_at now i).greatest row g s q in
+    not-in g row.seg z a (not-in row.seg old.seg z (new-in old h.new h.gave row m) passed))
     there
 
 old-passed : (old : Row) → old.readings ≡ None → (z : ℤ) → covers old.seg z ≡ false → (g : Seg)
@@ -142,11 +141,11 @@ same-read i old before now k z h sound lt passed = elim (cases_eq k i) [
   | inl e ↦
       let p = passed e in
       let was : (track_at before i).rows ≡ h.front ++ (old ∷ []) ++ h.back =
-          h.was ∙ sym (append_assoc h.front (old ∷ []) h.back) in
+      h.was ∙ sym (append_assoc h.front (old ∷ []) h.back) in
       let same = same-seg h.front (old ∷ []) h.new h.back z (old-passed old h.closed z p)
-          (new-passed i old before now h sound z p) in
+      (new-passed i old before now h sound z p) in
       let here : seg_at (segs_of_rows (track_at before i).rows) z ≡ seg_at (segs_of_rows (track_at now i).rows) z =
-          ap (λ rows. seg_at (segs_of_rows rows) z) was ∙ same ∙ ap (λ rows. seg_at (segs_of_rows rows) z) (sym h.is) in
+      ap (λ rows. seg_at (segs_of_rows rows) z) was ∙ same ∙ ap (λ rows. seg_at (segs_of_rows rows) z) (sym h.is) in
       rw e here
 ]
 
@@ -158,24 +157,24 @@ reads-same : (i : ℕ) (old : Row) (before now : Cut) (t : Term) (l : ℤ) (n : 
 reads-same i old before now t l n rs j h sound are passed =
     say-the-same (segs_of (entries before)) (segs_of (entries now)) t l j
     (same-reads (segs_of (entries before)) (segs_of (entries now)) t l j (λ o below.
-      let r = are.each o below in
-      let k = (reader_at rs o).track in
-      let z = (reader_at rs o).at +ℤ pos j in
-      let lt : k < length before = subst (λ m. k < m) (sym h.count) r.track in
-      let own : segs_of (entries now) (occurrence_at t l o).name ≡ segs_of_rows (track_at now k).rows =
-          ap (segs_of (entries now)) (sym r.name) ∙ segs-of-track now k sound.apart r.track in
-      let name : (track_at before k).name ≡ (occurrence_at t l o).name =
-          sym (same-name i old before now h k) ∙ r.name in
-      let other : segs_of (entries before) (occurrence_at t l o).name ≡ segs_of_rows (track_at before k).rows =
-          ap (segs_of (entries before)) (sym name)
-              ∙ segs-of-track before k (apart-before i old before now h sound) lt in
-      let same : seg_at (segs_of_rows (track_at before k).rows) z ≡ seg_at (segs_of_rows (track_at now k).rows) z =
-          same-read i old before now k z h sound r.track (passed o below) in
-      let both : seg_at (segs_of (entries before) (occurrence_at t l o).name) z
-          ≡ seg_at (segs_of (entries now) (occurrence_at t l o).name) z =
-          ap (λ gs. seg_at gs z) other ∙ same ∙ sym (ap (λ gs. seg_at gs z) own) in
-      subst (λ a. seg_at (segs_of (entries before) (occurrence_at t l o).name) (a +ℤ pos j)
-        ≡ seg_at (segs_of (entries now) (occurrence_at t l o).name) (a +ℤ pos j)) r.at both))
+    let r = are.each o below in
+    let k = (reader_at rs o).track in
+    let z = (reader_at rs o).at +ℤ pos j in
+    let lt : k < length before = subst (λ m. k < m) (sym h.count) r.track in
+    let own : segs_of (entries now) (occurrence_at t l o).name ≡ segs_of_rows (track_at now k).rows =
+    ap (segs_of (entries now)) (sym r.name) ∙ segs-of-track now k sound.apart r.track in
+    let name : (track_at before k).name ≡ (occurrence_at t l o).name =
+    sym (same-name i old before now h k) ∙ r.name in
+    let other : segs_of (entries before) (occurrence_at t l o).name ≡ segs_of_rows (track_at before k).rows =
+    ap (segs_of (entries before)) (sym name)
+    ∙ segs-of-track before k (apart-before i old before now h sound) lt in
+    let same : seg_at (segs_of_rows (track_at before k).rows) z ≡ seg_at (segs_of_rows (track_at now k).rows) z =
+    same-read i old before now k z h sound r.track (passed o below) in
+    let both : seg_at (segs_of (entries before) (occurrence_at t l o).name) z
+    ≡ seg_at (segs_of (entries now) (occurrence_at t l o).name) z =
+    ap (λ gs. seg_at gs z) other ∙ same ∙ sym (ap (λ gs. seg_at gs z) own) in
+    subst (λ a. seg_at (segs_of (entries before) (occurrence_at t l o).name) (a +ℤ pos j)
+    ≡ seg_at (segs_of (entries now) (occurrence_at t l o).name) (a +ℤ pos j)) r.at both))
 
 -- all along the piece the row is not read
 all-along : (i : ℕ) (old : Row) (before now : Cut) (t : Term) (l : ℤ) (rs : List Reader) (offset : ℕ → ℕ) (kept : Kept)
@@ -184,25 +183,25 @@ all-along : (i : ℕ) (old : Row) (before now : Cut) (t : Term) (l : ℤ) (rs : 
     → j < offset (c + kept.lens c) - offset c → covers old.seg ((reader_at rs o).at +ℤ pos (offset c + j)) ≡ false
 all-along i old before now t l rs offset kept c o h is below track passed j lt =
     let was : (track_at before i).rows ≡ h.front ++ (old ∷ []) ++ h.back =
-        h.was ∙ sym (append_assoc h.front (old ∷ []) h.back) in
+    h.was ∙ sym (append_assoc h.front (old ∷ []) h.back) in
     let there : Has old (rows_read before (reader_at rs o)) =
-        subst (Has old) (sym (ap (λ q. (track_at before q).rows) track ∙ was))
-        (in-middle old h.front (old ∷ []) h.back (inl refl)) in
+    subst (Has old) (sym (ap (λ q. (track_at before q).rows) track ∙ was))
+    (in-middle old h.front (old ∷ []) h.back (inl refl)) in
     is.still o old below there j lt ∙ passed
 
 pub untouched : (i : ℕ) (old : Row) (before now : Cut) (t : Term) (l : ℤ) (n : ℕ) (rs : List Reader) (offset : ℕ → ℕ)
     (kept : Kept) (c : ℕ) → HasChanged i old before now → IsSound now → AreReadersOf now t l n rs
     → ((o : ℕ) → o < names_in t → (reader_at rs o).track ≡ i
-      → covers old.seg ((reader_at rs o).at +ℤ pos (offset c)) ≡ false)
+    → covers old.seg ((reader_at rs o).at +ℤ pos (offset c)) ≡ false)
     → IsKeptAt before t l rs offset kept c → IsKeptAt now t l rs offset kept c
 untouched i old before now t l n rs offset kept c h sound are passed is = record {
   said = record {
     estimate = is.said.estimate
         ∙ total_below-same (behind (estimate_from (segs_of (entries before)) t l) (offset c))
-          (behind (estimate_from (segs_of (entries now)) t l) (offset c)) len (λ j lt. (same j lt).estimate);
+        (behind (estimate_from (segs_of (entries now)) t l) (offset c)) len (λ j lt. (same j lt).estimate);
     greatest = λ o below. is.said.greatest o below
         ∙ most_below-same (behind (weight_at (segs_of (entries before)) t l o) (offset c))
-          (behind (weight_at (segs_of (entries now)) t l o) (offset c)) len (λ j lt. (same j lt).weights o);
+        (behind (weight_at (segs_of (entries now)) t l o) (offset c)) len (λ j lt. (same j lt).weights o);
   };
   still = still;
 }
@@ -227,17 +226,17 @@ untouched i old before now t l n rs offset kept c h sound are passed is = record
           (subst (λ (k : Track Row). Has row k.rows) (h.others (reader_at rs o).track ne) there) j lt
       | inl e ↦
           let was : (track_at before i).rows ≡ h.front ++ (old ∷ []) ++ h.back =
-              h.was ∙ sym (append_assoc h.front (old ∷ []) h.back) in
+          h.was ∙ sym (append_assoc h.front (old ∷ []) h.back) in
           let rows : rows_read before (reader_at rs o) ≡ h.front ++ (old ∷ []) ++ h.back =
-              ap (λ q. (track_at before q).rows) e ∙ was in
+          ap (λ q. (track_at before q).rows) e ∙ was in
           let in-now : Has row (h.front ++ h.new ++ h.back) =
-              subst (Has row) (ap (λ q. (track_at now q).rows) e ∙ h.is) there in
+          subst (Has row) (ap (λ q. (track_at now q).rows) e ∙ h.is) there in
           has-parts row h.front h.new h.back
           (λ m. is.still o row below (subst (Has row) (sym rows) (in-front row h.front (old ∷ []) h.back m)) j lt)
           (λ m.
-            let l = new-in old h.new h.gave row m in
-            not-in row.seg old.seg ((reader_at rs o).at +ℤ pos (offset c + j)) l (along o j below e lt)
-            ∙ sym (not-in row.seg old.seg ((reader_at rs o).at +ℤ pos (offset c)) l (passed o below e)))
+          let l = new-in old h.new h.gave row m in
+          not-in row.seg old.seg ((reader_at rs o).at +ℤ pos (offset c + j)) l (along o j below e lt)
+          ∙ sym (not-in row.seg old.seg ((reader_at rs o).at +ℤ pos (offset c)) l (passed o below e)))
           (λ m. is.still o row below (subst (Has row) (sym rows) (in-back row h.front (old ∷ []) h.back m)) j lt)
           in-now
     ]
@@ -271,12 +270,12 @@ find-place now i [] p = inr (λ row h e. absurd h)
 find-place now i (r ∷ rows) p = elim (cases_eq (place_of now i r) p) [
   | inl e ↦ inl (record { row = r; there = inl refl; place = e })
   | inr ne ↦ elim (find-place now i rows p) [
-      | inl is ↦ inl (record { row = is.row; there = inr is.there; place = is.place })
-      | inr none ↦ inr (λ row h e. elim h [
-          | inl q ↦ ne (subst (λ x. place_of now i x ≡ p) q e)
-          | inr m ↦ none row m e
-        ])
-    ]
+    | inl is ↦ inl (record { row = is.row; there = inr is.there; place = is.place })
+    | inr none ↦ inr (λ row h e. elim h [
+      | inl q ↦ ne (subst (λ x. place_of now i x ≡ p) q e)
+      | inr m ↦ none row m e
+    ])
+  ]
 ]
 
 -- the rows that begin at borders of blocks still do
@@ -288,10 +287,10 @@ borders-now i old before now k h are j row lt there =
       | inr ne ↦ are.borders j row lt-before (subst (λ (t : Track Row). Has row t.rows) (h.others j ne) there)
       | inl e ↦
           let was : (track_at before i).rows ≡ h.front ++ (old ∷ []) ++ h.back =
-              h.was ∙ sym (append_assoc h.front (old ∷ []) h.back) in
+          h.was ∙ sym (append_assoc h.front (old ∷ []) h.back) in
           let in-now : Has row (h.front ++ h.new ++ h.back) = rw (e, h.is) at there in
           let at-old = are.borders j old lt-before
-              (rw (e, was) (in-middle old h.front (old ∷ []) h.back (inl refl))) in
+          (rw (e, was) (in-middle old h.front (old ∷ []) h.back (inl refl))) in
           has-parts row h.front h.new h.back
           (λ m. are.borders j row lt-before (rw (e, was) (in-front row h.front (old ∷ []) h.back m)))
           (λ m. new-borders old h.new at-old.0 h.gave at-old.1 row m)
@@ -306,7 +305,7 @@ pub recharged : (i : ℕ) (old : Row) (before now : Cut) (k : KeptSum) (charges 
 recharged i old before now k charges h sound are new = record {
   room =
       let e : band_of now (length now) ≡ band_of before (length before) =
-          same-band i old before now h (length now) ∙ ap (band_of before) (sym h.count) in
+      same-band i old before now h (length now) ∙ ap (band_of before) (sym h.count) in
       let room = are.room in
       let same = new.room in
       rw (e, same) room;
@@ -315,11 +314,11 @@ recharged i old before now k charges h sound are new = record {
     | inl is ↦
         let other = site-has now i is.row h.within (in-now is.row is.there) in
         let same : site j row ≡ site i is.row =
-            one-place (place_in now) 0 (sites now) (site j row) (site i is.row)
-            (places-go-up now sound.tracks borders) (site-has now j row lt there) other (sym is.place) in
+        one-place (place_in now) 0 (sites now) (site j row) (site i is.row)
+        (places-go-up now sound.tracks borders) (site-has now j row lt there) other (sym is.place) in
         let own = new.each is.row is.there in
         subst (λ (st : Site). number charges (place_of now st.track st.row) ≡ row_charge k st.track st.row)
-            (sym same) own
+        (sym same) own
     | inr none ↦
         new.others (place_of now j row) none
         ∙ ap (number k.charges) (same-place i old before now j row h)
@@ -352,9 +351,9 @@ recharged i old before now k charges h sound are new = record {
       | inl e ↦
           let parts : Has row (h.front ++ h.new ++ h.back) = rw (e, h.is) at there in
           rw (e, was) (has-parts row h.front h.new h.back
-            (λ m. in-front row h.front (old ∷ []) h.back m)
-            (λ m. absurd (none row m (ap (λ q. place_of now q row) (sym e))))
-            (λ m. in-back row h.front (old ∷ []) h.back m) parts)
+          (λ m. in-front row h.front (old ∷ []) h.back m)
+          (λ m. absurd (none row m (ap (λ q. place_of now q row) (sym e))))
+          (λ m. in-back row h.front (old ∷ []) h.back m) parts)
     ]
 
     -- and stays there
@@ -365,18 +364,18 @@ recharged i old before now k charges h sound are new = record {
       | inl e ↦
           let parts : Has row (h.front ++ (old ∷ []) ++ h.back) = rw (e, was) at there in
           rw (e, h.is) (has-parts row h.front (old ∷ []) h.back
-            (λ m. in-front row h.front h.new h.back m)
-            (λ m. elim m [
-              | inr bad ↦ absurd bad
-              | inl q ↦
-                  let f = first-new old h.new h.gave in
-                  let start : f.row.seg.start ≡ row.seg.start =
-                      f.start ∙ ap (λ (r : Row). r.seg.start) (sym q) in
-                  let same : place_of now i f.row ≡ place_of now j row =
-                      ap₂ (λ a b. band_of now a + b / 16) (sym e) start in
-                  absurd (none f.row f.there (same ∙ place))
-            ])
-            (λ m. in-back row h.front h.new h.back m) parts)
+          (λ m. in-front row h.front h.new h.back m)
+          (λ m. elim m [
+            | inr bad ↦ absurd bad
+            | inl q ↦
+                let f = first-new old h.new h.gave in
+                let start : f.row.seg.start ≡ row.seg.start =
+                f.start ∙ ap (λ (r : Row). r.seg.start) (sym q) in
+                let same : place_of now i f.row ≡ place_of now j row =
+                ap₂ (λ a b. band_of now a + b / 16) (sym e) start in
+                absurd (none f.row f.there (same ∙ place))
+          ])
+          (λ m. in-back row h.front h.new h.back m) parts)
     ]
 
 -- ---- what is in doubt, once the new rows are charged
@@ -392,15 +391,15 @@ find-read i row rs offset (suc n) = elim (find-read i row rs offset n) [
       let b = is.below in
       inl (record { o = is.o; below = omega arith; track = is.track; covered = is.covered })
   | inr none ↦ elim (cases_eq (reader_at rs n).track i) [
-      | inr ne ↦ inr (λ o lt e. none o (smaller o lt (λ q. ne (subst (λ x. (reader_at rs x).track ≡ i) q e))) e)
-      | inl track ↦ elim (cases_Bool (covers row.seg ((reader_at rs n).at +ℤ pos offset))) [
-          | inl t ↦ inl (record { o = n; below = omega arith; track = track; covered = t })
-          | inr f ↦ inr (λ o lt e. elim (cases_eq o n) [
-              | inl q ↦ subst (λ x. covers row.seg ((reader_at rs x).at +ℤ pos offset) ≡ false) (sym q) f
-              | inr ne ↦ none o (smaller o lt ne) e
-            ])
-        ]
+    | inr ne ↦ inr (λ o lt e. none o (smaller o lt (λ q. ne (subst (λ x. (reader_at rs x).track ≡ i) q e))) e)
+    | inl track ↦ elim (cases_Bool (covers row.seg ((reader_at rs n).at +ℤ pos offset))) [
+      | inl t ↦ inl (record { o = n; below = omega arith; track = track; covered = t })
+      | inr f ↦ inr (λ o lt e. elim (cases_eq o n) [
+        | inl q ↦ subst (λ x. covers row.seg ((reader_at rs x).at +ℤ pos offset) ≡ false) (sym q) f
+        | inr ne ↦ none o (smaller o lt ne) e
+      ])
     ]
+  ]
 ]
   where
     smaller : (o : ℕ) → o < suc n → (o ≡ n → ⊥) → o < n
@@ -427,15 +426,15 @@ taken-in i old before now s k charges h is can new = record {
   pieces = λ c some. elim (is.pieces c some) [
     | inl bad ↦ absurd bad
     | inr right ↦ elim (find-read i old k.readers.items (offset_of k.cells c) (names_in s.series)) [
-        | inl read ↦ inl read
-        | inr none ↦
-            let right-now : IsKeptAt now s.series (first_of before s) k.readers.items (offset_of k.cells)
-                (kept_of k) c =
-                untouched i old before now s.series (first_of before s) (count_of before s) k.readers.items
-                (offset_of k.cells) (kept_of k) c h can.sound are none right in
-            inr (subst (λ l. IsKeptAt now s.series l k.readers.items (offset_of k.cells) (kept_of k) c)
-                (sym first) right-now)
-      ]
+      | inl read ↦ inl read
+      | inr none ↦
+          let right-now : IsKeptAt now s.series (first_of before s) k.readers.items (offset_of k.cells)
+          (kept_of k) c =
+          untouched i old before now s.series (first_of before s) (count_of before s) k.readers.items
+          (offset_of k.cells) (kept_of k) c h can.sound are none right in
+          inr (subst (λ l. IsKeptAt now s.series l k.readers.items (offset_of k.cells) (kept_of k) c)
+          (sym first) right-now)
+    ]
   ];
 }
   where

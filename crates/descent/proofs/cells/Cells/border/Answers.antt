@@ -1,9 +1,8 @@
-use Rattle.std.proofs.Common.{◌≡◌, ◌<◌, ◌+◌, ◌-◌, ◌/◌, min, ℤ, pos, ◌+ℤ◌, ◌-ℤ◌, SFits, rules, arith, subst, sym}
-use Rattle.std.specs.Int.{w64}
+use Rattle.std.proofs.Common.{◌≡◌, ◌<◌, ◌+◌, ◌-◌, ◌/◌, min, pos, ◌+ℤ◌, ◌-ℤ◌, arith, subst, sym}
 use Rattle.std.specs.Prelude.{unsigned_abs}
-use Rattle.std.proofs.lemmas.Int.{ints, to_z-of_z}
+use Rattle.std.proofs.lemmas.Int.{ints}
 use Rattle.descent.specs.Cells.{IsBorder}
-use Rattle.descent.proofs.CellLaws.{border-at, cell_from}
+use Rattle.descent.proofs.CellLaws.{border-at}
 use Rattle.descent.proofs.cells.Cells.border.Goals as goal
 
 pub returns : goal.returns

@@ -1,4 +1,4 @@
-use Rattle.std.proofs.Common.{◌≡◌, length, pos, List, ℤ, replicate, ap, sym, ◌∙◌, rules, arith}
+use Rattle.std.proofs.Common.{◌≡◌, length, pos, List, ℤ, replicate, ap, sym, ◌∙◌, rules}
 use Rattle.std.specs.Int.{int_wrap, w128}
 use Rattle.std.proofs.lemmas.Int.{int_wrap_fits}
 use Rattle.semantics.specs.Readings.{reading}

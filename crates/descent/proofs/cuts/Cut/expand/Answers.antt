@@ -57,7 +57,7 @@ invariant_of-self-2 g c =
       apart = subst AreApart (sym (names-set xs k new t lt (ap (λ (q : Track (Held g.row.I.Denot)). q.name) c.expand_row.ensures.same ∙ ap (λ (q : Track (Held g.row.I.Denot)). q.name) c.index_mut.ensures.value))) c.self.invariant.apart;
       back = back-at xs k c.in_ok-row.row new lt c.in_ok-row.ensures.back
           (subst (λ (q : Track (Held g.row.I.Denot)). IsSoundTrack (with_rows row_in q)) (sym (whole-again t new (restored (held c.in_ok-row.row) new.rows) c.expand_row.ensures.same c.in_ok-row.ensures.restored)) c.expand_row.ensures.sound);
-      kept = subst (λ (s : State). IsKeptAs s (set xs k new) (Some change) ss ks) (sym c.after.ensures)
+      kept = subst (λ (s : State). IsKeptAs s (set xs k new) (Some change) ss ks) (sym c.after-self-inside.ensures)
           (kept-after c.self.inside.state xs (set xs k new) c.self.inside.last change ss ks (restored-at xs k (held c.in_ok-row.row) new t lt same back) c.self.invariant.kept);
     }
 

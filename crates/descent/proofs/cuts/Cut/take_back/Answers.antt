@@ -55,7 +55,7 @@ invariant_of-self g c =
       rising = rising-set 0 xs ch.table c.put_back.new.self t c.self.invariant.rising lt (ap (λ (q : Track (Held g.row.I.Denot)). q.series) c.put_back.ensures ∙ ap (λ (q : Track (Held g.row.I.Denot)). q.series) c.index_mut.ensures.value);
       apart = subst AreApart (sym (names-set xs ch.table c.put_back.new.self t lt (ap (λ (q : Track (Held g.row.I.Denot)). q.name) c.put_back.ensures ∙ ap (λ (q : Track (Held g.row.I.Denot)). q.name) c.index_mut.ensures.value))) c.self.invariant.apart;
       back = tt;
-      kept = subst (λ (s : State). IsKeptAs s (set xs ch.table new) None ss ks) (sym c.back.ensures)
+      kept = subst (λ (s : State). IsKeptAs s (set xs ch.table new) None ss ks) (sym c.back-self-inside.ensures)
           (kept-back c.self.inside.state xs (set xs ch.table new) c.self.inside.last ch ss ks c.in-Some.is (sym (set-restored xs ch.table h t new lt e)) c.self.invariant.kept);
     }
 

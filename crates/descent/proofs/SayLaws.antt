@@ -1,6 +1,6 @@
 -- What a cut says of offsets at which every reader reads the same segment.
 use Rattle.std.proofs.Common.{◌≡◌, ℕ, zero, suc, ◌+◌, ◌-◌, ◌*◌, ◌^◌, ◌<◌, ◌≤◌, max, Bool, true, false, inl, inr, ◌⊎◌, ℤ, pos, ◌+ℤ◌, ◌-ℤ◌, unsigned_abs, None, List, [], ◌∷◌, length, map, get_or, arith, refl, sym, ap, ap₂, subst, ◌∙◌}
-use Rattle.std.specs.Prelude.{◌≤ℤ◌, min}
+use Rattle.std.specs.Prelude.{◌≤ℤ◌, min, replicate, Result, Ok, Err, IfOk, OnOk}
 use Rattle.std.proofs.lemmas.Bool.{cases_lt}
 use Rattle.std.proofs.Math.Nat.{mul-le-mul}
 use Rattle.std.proofs.lemmas.Int.{ints}
@@ -322,3 +322,13 @@ next-stretch cut s t l rs from most o len n new read lo h f e =
         let c = h.within in
         absurd (omega (arith, ints, r.until (omega arith), q))
     comes (inr (k, q)) less = let z : new ≡ n = omega arith in inr (record { o = o; below = lo; k = k; border = ap (λ x. (reader_at rs o).at +ℤ pos (from + x)) z ∙ q })
+
+pub said-if-ok : {E : Type 0} → (cut : Cut) (t : Term) (l : ℤ) (from n : ℕ) (r : Result ℤ E) (v w : ℕ → ℕ) → ((o : ℕ) → v o ≡ 0) → IfOk r (λ e. e ≡ total_below (behind (estimate_from (segs_of (entries cut)) t l) from) n)
+    → OnOk r ((o : ℕ) → o < names_in t → w o ≡ max (v o) (most_below (behind (weight_at (segs_of (entries cut)) t l o) from) n)) → IfOk r (λ e. IsSaid cut t l from n e w)
+said-if-ok cut t l from n (Ok x) v w z e m = said-whole cut t l from n x v w z e m
+said-if-ok cut t l from n (Err x) v w z e m = tt
+
+pub zero-at : (n o : ℕ) → get_or {A = ℕ} (replicate n 0) o 0 ≡ 0
+zero-at zero o = refl
+zero-at (suc n) zero = refl
+zero-at (suc n) (suc o) = zero-at n o

@@ -261,18 +261,18 @@ pub record LeavesBack {I : Type 0} (r : Row I) (old new : List (Held I)) : Type 
   pub restored : restored (held r) new ≡ old
 
 pub opens-back : {I : Type 0} → (rows : List (Held I)) (start : ℕ) (r : Row I) (o : Held I) → Has (held r) rows → r.seg.start ≡ start → r.readings ≡ None
-    → ((h : Held I) → Has h rows → h.row.seg.start ≡ start → h ≡ held r) → o.row.seg ≡ r.seg → LeavesBack r rows (replaced start (o ∷ []) rows)
-opens-back rows start r o there s c alone e =
+    → ((h : Held I) → Has h rows → h.row.seg.start ≡ start → h ≡ held r) → o.row.seg ≡ r.seg → (xs : List ℤ) → o.row.readings ≡ Some xs → LeavesBack r rows (replaced start (o ∷ []) rows)
+opens-back rows start r o there s c alone e xs read =
     let t = closed-there start r s c in
     record {
-      can = record { closed = c; by = inl (record { new = o; there = replaced-has rows (o ∷ []) start o (held r) t there (inl refl); same = e }) };
+      can = record { closed = c; by = inl (record { new = o; there = replaced-has rows (o ∷ []) start o (held r) t there (inl refl); same = e; readings = xs; opened = read }) };
       restored = back-replaced rows (o ∷ []) start r t s alone (λ hs. back-open (held r) o hs e);
     }
 
 pub splits-back : {I : Type 0} → (rows : List (Held I)) (start half : ℕ) (r : Row I) (a b : Held I) → Has (held r) rows → r.seg.start ≡ start → r.readings ≡ None
     → ((h : Held I) → Has h rows → h.row.seg.start ≡ start → h ≡ held r) → a.row.seg.start ≡ start → 0 < half → a.row.seg.len ≡ 16 * half → b.row.seg.start ≡ a.row.seg.start + a.row.seg.len
-    → 0 < b.row.seg.len → a.row.seg.len + b.row.seg.len ≡ r.seg.len → LeavesBack r rows (replaced start (a ∷ b ∷ []) rows)
-splits-back rows start half r a b there s c alone sa some full next rest whole =
+    → 0 < b.row.seg.len → a.row.seg.len + b.row.seg.len ≡ r.seg.len → a.row.readings ≡ None → b.row.readings ≡ None → LeavesBack r rows (replaced start (a ∷ b ∷ []) rows)
+splits-back rows start half r a b there s c alone sa some full next rest whole ca cb =
     let t = closed-there start r s c in
     record {
       can = record {
@@ -282,6 +282,8 @@ splits-back rows start half r a b there s c alone sa some full next rest whole =
           right = b;
           left_there = replaced-has rows (a ∷ b ∷ []) start a (held r) t there (inl refl);
           right_there = replaced-has rows (a ∷ b ∷ []) start b (held r) t there (inr (inl refl));
+          left_closed = ca;
+          right_closed = cb;
           starts = sa ∙ sym s;
           half = half;
           some = some;

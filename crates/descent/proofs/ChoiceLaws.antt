@@ -32,7 +32,7 @@ use Rattle.descent.specs.Rows.{Row, Track, Cut, units, segs_given, segs_of_row, 
 use Rattle.descent.specs.Sums.{first_of, count_of, charge_of, sum_in}
 use Rattle.descent.specs.declared.choosing.Charged.{Charged}
 use Rattle.descent.specs.Choice.{row_of as charged_by}
-use Rattle.descent.specs.Choice.{Has, choice, pick_if, heavier, heaviest, Line, side_by_side, says_weight, weight_of, whole_error, charge, charged_row, charged_in, charged_rows}
+use Rattle.descent.specs.Choice.{At, Has, choice, pick_if, heavier, heaviest, Line, side_by_side, says_weight, weight_of, whole_error, charge, charged_row, charged_in, charged_rows}
 use Rattle.descent.specs.Charging.{later, heaviest_on, weight_in, IsFirst, IsLight, charges_at, charge_from, charged_from, charged_on}
 use Rattle.descent.proofs.Exact.{units-some}
 use Rattle.descent.proofs.Heaviest.{heaviest-found}
@@ -120,12 +120,6 @@ later-free (Some x) c e = rw (is-le c.charge x.charge (omega arith)) refl
 
 -- ---- the line that is found
 
--- an element at a place
-abbrev pub At : {A : Type 0} → ℕ → A → List A → Type 0
-At k x [] = ⊥
-At zero x (y ∷ ys) = x ≡ y
-At (suc k) x (y ∷ ys) = At k x ys
-
 at-front : {A : Type 0} → (w : A → ℕ) (x : A) (behind : List A) (o : Option A) → heaviest w behind ≡ o → 0 < w x → ((y : A) → Has y behind → w y ≤ w x) → heavier w x o ≡ Some x
 at-front w x behind None e some all = rw (some-not (w x) some) refl
 at-front w x behind (Some y) e some all = let found = heaviest-found w behind y e in rw (is-le (w y) (w x) (all y found.there)) refl
@@ -196,7 +190,7 @@ abbrev pub own_charges : List Entry → SumTerm → List ℕ
 own_charges es s = let r = range_or s.range (domain_of (end_of_name es) s.series) in charges_of es s.series r.left (positions_in r.left r.right)
 
 -- the positions of a whole domain
-whole-count : (d : Range) → positions_in (whole d).left (whole d).right ≡ positions_in d.left d.right
+pub whole-count : (d : Range) → positions_in (whole d).left (whole d).right ≡ positions_in d.left d.right
 whole-count d = go (d.right -ℤ d.left) (int_max d.left d.right -ℤ d.left) (omega (arith, ints, clamps)) (omega (arith, ints, clamps))
   where
     go : (y z : ℤ) → (pos 0 ≤ℤ y → z ≡ y) → (y <ℤ pos 0 → z ≡ pos 0) → from_zero z ≡ from_zero y

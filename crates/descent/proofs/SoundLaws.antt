@@ -36,7 +36,7 @@ units-touch : (start : ℕ) (xs : List ℤ) → TouchFrom start (units start xs)
 units-touch start [] = omega arith
 units-touch start (x ∷ xs) = let e : start + 1 + length xs ≡ start + suc (length xs) = omega arith in (refl, subst (TouchFrom (start + 1) (units (start + 1) xs)) e (units-touch (start + 1) xs))
 
-row-touch : (d from : ℕ) (row : Row) → IsSoundRow d row → row.seg.start ≡ from → TouchFrom from (segs_of_row row) (from + row.seg.len)
+pub row-touch : (d from : ℕ) (row : Row) → IsSoundRow d row → row.seg.start ≡ from → TouchFrom from (segs_of_row row) (from + row.seg.len)
 row-touch d from row s at = by row.readings s.read
   where
     by : (o : Option (List ℤ)) → ((xs : List ℤ) → o ≡ Some xs → AreSmall d row.seg.len xs) → TouchFrom from (segs_given row.seg o) (from + row.seg.len)
@@ -164,11 +164,11 @@ cuts_are_frames = λ cut q s admitted.
     }
 
 -- for the tracks of a cut with their ids
-shown-names : {I : Type 0} → (ts : List (Track (Held I))) → map name_of (shown ts) ≡ map name_of ts
+pub shown-names : {I : Type 0} → (ts : List (Track (Held I))) → map name_of (shown ts) ≡ map name_of ts
 shown-names [] = refl
 shown-names (t ∷ ts) = ap (λ ns. t.name ∷ ns) (shown-names ts)
 
-shown-facts : {I : Type 0} → (ts : List (Track (Held I))) → facts_in (shown ts) ≡ facts_in ts
+pub shown-facts : {I : Type 0} → (ts : List (Track (Held I))) → facts_in (shown ts) ≡ facts_in ts
 shown-facts [] = refl
 shown-facts (t ∷ ts) = ap (λ fs. fact_of t ∷ fs) (shown-facts ts)
 

@@ -1,5 +1,5 @@
 -- The choice: the sum that matters most, and in it the row that is charged most.
-use Rattle.std.specs.Prelude.{◌≡◌, ℕ, ◌+◌, ◌-◌, ◌*◌, ◌/◌, ◌^◌, ◌<◌, ◌≤◌, ◌==◌, nat_le, if◌then◌else◌, is_some, Option, Some, None, List, [], ◌∷◌, ◌++◌, map, All, ◌⊎◌}
+use Rattle.std.specs.Prelude.{◌≡◌, ℕ, zero, suc, ◌+◌, ◌-◌, ◌*◌, ◌/◌, ◌^◌, ◌<◌, ◌≤◌, ◌==◌, nat_le, if◌then◌else◌, is_some, Option, Some, None, List, [], ◌∷◌, ◌++◌, map, All, ◌⊎◌}
 use Rattle.semantics.specs.Admission.{SumTerm, sums_of}
 use Rattle.semantics.specs.Term.{QueryTerm}
 use Rattle.segment.specs.Measure.{unit}
@@ -15,6 +15,12 @@ use Rattle.descent.specs.Sums.{charge_of, interval_in}
 abbrev pub Has : {A : Type 0} → A → List A → Type 0
 Has y [] = ⊥
 Has y (x ∷ xs) = (y ≡ x) ⊎ Has y xs
+
+-- the k-th element of a list
+abbrev pub At : {A : Type 0} → ℕ → A → List A → Type 0
+At k x [] = ⊥
+At zero x (y ∷ ys) = x ≡ y
+At (suc k) x (y ∷ ys) = At k x ys
 
 -- ---- the first of the heaviest
 

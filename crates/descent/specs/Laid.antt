@@ -1,5 +1,5 @@
 -- Rows that stand at the places of their first blocks.
-use Rattle.std.specs.Prelude.{◌≡◌, ℕ, zero, suc, ◌+◌, ◌-◌, ◌*◌, ◌/◌, ◌^◌, ◌<◌, ◌≤◌, if◌then◌else◌, List, [], ◌∷◌, ◌++◌, length, map, take, drop, ◌==◌, ◌⊎◌, Option, None, Some}
+use Rattle.std.specs.Prelude.{◌≡◌, ℕ, zero, suc, ◌+◌, ◌-◌, ◌*◌, ◌/◌, ◌^◌, ◌<◌, ◌≤◌, if◌then◌else◌, List, [], ◌∷◌, ◌++◌, length, map, take, drop, ◌==◌, ◌⊎◌, Option, None, Some, get_or, slice_index, ℤ}
 use Rattle.std.specs.Option.{option_map}
 use Rattle.descent.specs.declared.tables.Row.{Row}
 use Rattle.descent.specs.declared.tables.Table.TheInside.{Inside}
@@ -44,9 +44,21 @@ view_of t = record {
   rows = map held (present t.places.items);
 }
 
+-- the row that covers a block, by the place where it stands
+pub record IsOwnedBy {I : Type 0} (places : List (Option (Row I))) (block owner : ℕ) : Type 0 where
+  pub row : Row I
+  pub there : get_or places owner None ≡ Some row
+  pub from : owner ≤ block
+  pub until : block < owner + blocks row.seg.len
+
+pub record AreOwned {I : Type 0} (places : List (Option (Row I))) (owners : List ℕ) : Type 0 where
+  pub count : length owners ≡ length places
+  pub each : (block : ℕ) → block < length places → IsOwnedBy places block (slice_index owners block)
+
 pub record IsTable {I : Type 0} (t : Inside I) : Type 0 where
   pub laid : IsLaid 0 0 t.places.items
   pub few : length t.places.items ≤ 2 ^ 16
+  pub owned : AreOwned t.places.items t.owners.items
   pub sound : IsSoundTrack (with_rows row_in (view_of t))
 
 -- the rows, where the closed one from a position gives way to others
@@ -89,12 +101,14 @@ pub record AreHalves {I : Type 0} (rows : List (Held I)) (left right : Seg) : Ty
   pub rest : 0 < right.len
   pub whole : left.len + right.len ≡ before.seg.len
 
--- two rows that a closed one gave way to
+-- two closed rows that a closed one gave way to
 pub record AreHalvesOf {I : Type 0} (old : Row I) (rows : List (Held I)) : Type 0 where
   pub left : Held I
   pub right : Held I
   pub left_there : Has left rows
   pub right_there : Has right rows
+  pub left_closed : left.row.readings ≡ None
+  pub right_closed : right.row.readings ≡ None
   pub starts : left.row.seg.start ≡ old.seg.start
   pub half : ℕ
   pub some : 0 < half
@@ -108,6 +122,8 @@ pub record IsOpeningOf {I : Type 0} (old : Row I) (rows : List (Held I)) : Type 
   pub new : Held I
   pub there : Has new rows
   pub same : new.row.seg ≡ old.seg
+  pub readings : List ℤ
+  pub opened : new.row.readings ≡ Some readings
 
 -- a closed row that gave way to what stands in its place
 pub record CanGoBack {I : Type 0} (old : Row I) (rows : List (Held I)) : Type 0 where

@@ -16,3 +16,13 @@ pub mod Frames
 pub mod Charging
 pub mod Spent
 pub mod Below
+pub mod Cells
+pub mod Standing
+pub mod Readers
+pub mod Kept
+pub mod KeptSums
+pub mod Changed
+pub mod Said
+pub mod Charges
+pub mod Keeping
+pub mod Settled

@@ -104,7 +104,7 @@ fn count(q: &Query) -> usize
 }
 
 /// The ends of the range of a sum.
-fn range_of_sum(t: &Series, range: Option<Bounds>, facts: &[Fact]) -> Bounds
+pub(crate) fn range_of_sum(t: &Series, range: Option<Bounds>, facts: &[Fact]) -> Bounds
     requires depth { series_depth (term_of t.now) ≤ 64 }
     requires near { IsNearSeries (term_of t.now) }
     ensures { range_of result ≡ range_by (count_at (facts_of facts.now)) (term_of t.now) (option_map range_of range) }

@@ -19,17 +19,19 @@ ghost use Rattle.descent.specs.Descents as tree;
 ghost use Rattle.descent.specs.Descents.{Node, cut_of, expanded, expanded_row, row_of};
 ghost use Rattle.descent.specs.Held.{Held, heads, row_in, shown, IsTrackOf, AreTracksOf, IsNodeOf, AreNodesOf, IsClosedAt, steps_in, steps_left};
 ghost use Rattle.descent.specs.Known.{facts_in};
+ghost use Rattle.descent.specs.Keeping.{state_after, state_back};
 ghost use Rattle.descent.specs.Laid.{held, restored, CanGoBack};
 ghost use Rattle.descent.specs.Spent.{opened_among, opened_in, rows_in, Spends};
 ghost use Rattle.descent.specs.Told.{told};
 ghost use Rattle.descent.specs.Stepped.{IsClosedFrom, StepsTrack};
 
 use crate::Pick;
-use crate::choosing::{charges_at, heaviest_line, heaviest_row};
-use crate::frames::{facts_of, frame_of};
+use crate::choosing::heaviest_line;
+use crate::keeping::combined;
+use crate::kept::KeptSum;
 use crate::rows::Rows;
 use crate::tables::{Row, Table};
-use error_prop::{QueryOut, query_interval};
+use error_prop::QueryOut;
 use expr::Query;
 use num_text::Memory;
 use segment::{Children, NodeErr, Nodes, Seg};
@@ -43,6 +45,39 @@ pub(crate) struct Change<I> {
     pub(crate) row: Row<I>,
 }
 
+/// Of which rows the sums of the query are kept.
+#[derive(Clone, Copy, Drop)]
+pub(crate) enum State {
+    /// Of none that are known.
+    Old,
+    /// Of those before the last step.
+    Noted,
+    /// Of those that there are.
+    Current,
+}
+
+impl State {
+    /// After one more step.
+    fn after(self) -> State
+        ensures { result ≡ state_after self }
+    {
+        match self {
+            State::Current => State::Noted,
+            State::Noted | State::Old => State::Old,
+        }
+    }
+
+    /// After the last step is taken back.
+    fn back(self) -> State
+        ensures { result ≡ state_back self }
+    {
+        match self {
+            State::Noted => State::Current,
+            State::Current | State::Old => State::Old,
+        }
+    }
+}
+
 /// A cut, seen as the query for which it was made, its rows series by series, and what these were before the last step.
 #[derive(Drop)]
 pub struct Cut<I> {
@@ -50,6 +85,9 @@ pub struct Cut<I> {
     pub(crate) query: Query,
     pub(crate) tables: Vec<Table<I>>,
     pub(crate) last: Option<Change<I>>,
+    pub(crate) state: State,
+    /// What is kept of each sum of the query, from left to right.
+    pub(crate) kept: Vec<KeptSum>,
 }
 
 impl<I> Model for Cut<I> {
@@ -147,8 +185,8 @@ impl<I: Copy> Cut<I> {
             (query_term_of q.now))) }
         ensures same { self.new ≡ self.old }
     {
-        let frame = frame_of(self.alloc, self.tables.as_slice())?;
-        let out = query_interval(self.alloc, q, &frame)?;
+        let tables = self.tables.as_slice();
+        let out = combined(self.alloc, q, tables, &self.last, &mut self.state, &mut self.kept)?;
         Ok(out)
     }
 
@@ -162,14 +200,13 @@ impl<I: Copy> Cut<I> {
         ensures closed { IfOk result (λ at. IfSome at (IsClosedAt self.old.tracks)) }
         ensures same { self.new ≡ self.old }
     {
-        let frame = frame_of(self.alloc, self.tables.as_slice())?;
-        let out = query_interval(self.alloc, q, &frame)?;
+        let tables = self.tables.as_slice();
+        let out = combined(self.alloc, q, tables, &self.last, &mut self.state, &mut self.kept)?;
         let Some(k) = heaviest_line(out.sums.as_slice()) else {
             return Ok(None);
         };
-        let facts = facts_of(self.alloc, self.tables.as_slice())?;
-        let charges = charges_at(self.alloc, q, k, facts.as_slice(), &frame)?;
-        let row = heaviest_row(self.tables.as_slice(), charges.as_slice());
+        let sum = &self.kept[k];
+        let row = sum.heaviest(self.tables.as_slice());
         Ok(row)
     }
 
@@ -211,6 +248,7 @@ impl<I: Copy> Cut<I> {
         };
         let row = expand_row(&mut self.tables[k], nodes, source, at.start)?;
         self.last = Some(Change { table: k, row });
+        self.state = self.state.after();
         Ok(())
     }
 
@@ -226,6 +264,7 @@ impl<I: Copy> Cut<I> {
         };
         self.tables[change.table].put_back(change.row);
         self.last = None;
+        self.state = self.state.back();
     }
 
     /// The rows, from the least series and start on.

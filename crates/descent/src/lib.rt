@@ -1,17 +1,26 @@
 //! Cuts over several series, the choice of a row, and the descent to a budget.
 #![tactic(auto)]
 
+ghost use Rattle.descent.specs.Kept.{KeptSaysAfresh};
 ghost use Rattle.descent.specs.Laws.{EachBudgetIsMet, EachCutHoldsTheValue};
 ghost use Rattle.descent.specs.Spelled.{SpellingTellsQueries};
 ghost use Rattle.descent.specs.Worked.{DescentsAreWorked, OtherSumsAreWorked, ProductsAreWorked};
 
+mod cells;
+mod charges;
 mod choosing;
 mod cuts;
 mod descents;
+mod estimates;
 mod frames;
+mod keeping;
+mod kept;
+mod kept_says;
 mod naming;
+mod readers;
 mod rooted;
 mod rows;
+mod said;
 mod tables;
 
 pub use cuts::Cut;
@@ -37,6 +46,11 @@ pub fn descents_are_worked()
 /// Every budget is met by one cut, a budget of 0 too.
 pub fn every_budget_is_met()
     ensures { EachBudgetIsMet }
+{}
+
+/// What is kept by pieces says what a cut says afresh.
+pub fn kept_says_afresh()
+    ensures { KeptSaysAfresh }
 {}
 
 /// No two queries are spelled alike.

@@ -17,7 +17,7 @@ ghost use Rattle.descent.specs.Spent.{has_root, opened_among, opened_in, roots_i
 ghost use Rattle.descent.specs.Descents as tree;
 ghost use Rattle.descent.specs.Descents.{cut_of, root_track, row_of};
 
-use crate::cuts::Cut;
+use crate::cuts::{Cut, State};
 use crate::descents::DescentErr;
 use crate::naming::is_in_query;
 use crate::tables::Table;
@@ -146,5 +146,7 @@ pub fn roots<N: Nodes>(
         query,
         tables,
         last: None,
+        state: State::Old,
+        kept: Vec::new(alloc),
     })
 }

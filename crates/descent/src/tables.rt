@@ -1,7 +1,9 @@
 //! The rows of one series of a cut, each at the place of its first block.
 
-ghost use Rattle.std.specs.Prelude.{◌≡◌, ℕ, ◌+◌, ◌-◌, ◌*◌, ◌<◌, ◌≤◌, length, List, [], ◌∷◌, map, None, Some, slice_set, IfSome, IfOk, get_or, ◌^◌, replicate, ◌++◌, OnOk, take};
+ghost use Rattle.std.specs.Prelude.{◌≡◌, ℕ, ◌+◌, ◌-◌, ◌*◌, ◌/◌, ◌<◌, ◌≤◌, length, List, [], ◌∷◌, map, None, Some, slice_set, IfSome, IfOk, get_or, ◌^◌, replicate, ◌++◌, OnOk, take, slice_index, ◌⊎◌, MatchOption, pos, true};
 ghost use Rattle.segment.specs.Shape.{IsSplit};
+ghost use Rattle.bounds.specs.Segments.{covers, seg_at as seg_over};
+ghost use Rattle.descent.specs.Standing.{IsClosedOver, IsEndOver, IsOpenedOver};
 ghost use Rattle.descent.specs.Held.{Held, row_in as row_held};
 ghost use Rattle.descent.specs.Told.{told_row};
 ghost use Rattle.descent.specs.Laid.{blocks, held, replaced, IsRowFrom, IsOpened, AreHalves, CanGoBack, IsRootOf, restored, root_table};
@@ -21,7 +23,7 @@ use crate::rows::CutRow;
 use error_prop::Frame;
 use expr::{Fact, Name};
 use num_text::Memory;
-use segment::Seg;
+use segment::{Seg, unit};
 use std::alloc::{AllocError, Global};
 use std::marker::Model;
 
@@ -42,6 +44,8 @@ pub(crate) struct Table<I> {
     greatest: u64,
     /// Each row stands at the place of its first block of 16 readings.
     places: Vec<Option<Row<I>>>,
+    /// The first block of the row that covers a block.
+    owners: Vec<u32>,
 }
 
 impl<I> Model for Table<I> {
@@ -115,6 +119,19 @@ fn join_two<I: Copy>(places: &mut Vec<Option<Row<I>>>, first: usize, second: usi
     places[second] = None;
 }
 
+/// Blocks go over to the row that begins at one of them.
+fn give(owners: &mut Vec<u32>, from: usize, until: usize, owner: u32)
+    requires { until ≤ length owners.old.items }
+    ensures given { (b : ℕ) → from ≤ b → b < until → slice_index owners.new.items b ≡ owner }
+    ensures others { (b : ℕ) → (b < from) ⊎ (until ≤ b)
+        → slice_index owners.new.items b ≡ slice_index owners.old.items b }
+    ensures count { length owners.new.items ≡ length owners.old.items }
+{
+    for b in from..until {
+        owners[b] = owner;
+    }
+}
+
 /// The segments of a row are added to a frame: its own, or where it is opened one for each reading.
 fn put_row<I: Copy>(frame: &mut Frame, row: &Row<I>) -> Result<(), Memory>
     requires begun { 0 < length frame.old }
@@ -177,6 +194,7 @@ impl<I: Copy> Table<I> {
                 len,
                 greatest: 0,
                 places: Vec::new(alloc),
+                owners: Vec::new(alloc),
             });
         };
         let mut places = no_rows(alloc, len.div_ceil(16))?;
@@ -186,12 +204,14 @@ impl<I: Copy> Table<I> {
             readings: None,
         };
         put_one(&mut places, 0, row);
+        let owners = vec![in alloc; 0u32; len.div_ceil(16) as usize]?;
         Ok(Table {
             series,
             name,
             len,
             greatest: node.1.d,
             places,
+            owners,
         })
     }
 
@@ -199,6 +219,15 @@ impl<I: Copy> Table<I> {
         ensures { result ≡ self.now.series }
     {
         self.series
+    }
+
+    /// How many blocks of 16 readings the series has.
+    pub(crate) fn blocks(&self) -> u32
+        ensures count { result ≡ blocks self.now.len }
+        ensures sound { IsSoundTrack (with_rows row_held self.now) }
+        ensures borders { (h : Held I) → Has h self.now.rows → h.row.seg.start ≡ 16 * (h.row.seg.start / 16) }
+    {
+        self.len.div_ceil(16)
     }
 
     /// The row from a position on, or none where no row begins there.
@@ -240,6 +269,8 @@ impl<I: Copy> Table<I> {
         let first = (left.seg.start / 16) as usize;
         let second = first + (left.seg.len / 16) as usize;
         put_two(&mut self.places, first, second, left, right);
+        let end = second + right.seg.len.div_ceil(16) as usize;
+        give(&mut self.owners, second, end, right.seg.start / 16);
     }
 
     /// A row takes back the place of what it gave way to.
@@ -259,8 +290,59 @@ impl<I: Copy> Table<I> {
             put_one(&mut self.places, first, row);
         } else {
             let second = first + (left.seg.len / 16) as usize;
+            let end = first + row.seg.len.div_ceil(16) as usize;
             join_two(&mut self.places, first, second, row);
+            give(&mut self.owners, second, end, row.seg.start / 16);
         }
+    }
+
+    /// The row at a position.
+    fn row_at(&self, position: u32) -> Row<I>
+        requires { position < self.now.len }
+        ensures there { Has (held result) self.now.rows }
+        ensures covered { covers result.seg (pos position) ≡ true }
+        ensures sound { IsSoundTrack (with_rows row_held self.now) }
+        ensures borders { (h : Held I) → Has h self.now.rows → h.row.seg.start ≡ 16 * (h.row.seg.start / 16) }
+    {
+        let owner = self.owners[(position / 16) as usize];
+        let Some(row) = row_in(&self.places, owner as usize) else {
+            unreachable!()
+        };
+        row
+    }
+
+    /// The segment of the row at a position, none where that row is opened.
+    pub(crate) fn closed_at(&self, position: u32) -> Option<Seg>
+        requires { position < self.now.len }
+        ensures { MatchOption result (IsOpenedOver (map row_held self.now.rows) position)
+            (IsClosedOver (map row_held self.now.rows) position) }
+    {
+        let row = self.row_at(position);
+        match row.readings {
+            None => Some(row.seg),
+            Some(_) => None,
+        }
+    }
+
+    /// The segment that the cut gives at a position: that of a reading where the row is opened.
+    pub(crate) fn seg_at(&self, position: u32) -> Seg
+        requires { position < self.now.len }
+        ensures { result ≡ seg_over (segs_of_rows (map row_held self.now.rows)) (pos position) }
+    {
+        let row = self.row_at(position);
+        match row.readings {
+            None => row.seg,
+            Some(xs) => unit(xs[(position - row.seg.start) as usize], position),
+        }
+    }
+
+    /// The position behind the row at one.
+    pub(crate) fn end_at(&self, position: u32) -> u32
+        requires { position < self.now.len }
+        ensures { IsEndOver (map row_held self.now.rows) self.now.len position result }
+    {
+        let row = self.row_at(position);
+        row.seg.start + row.seg.len
     }
 
     /// The segments of the rows are added to a frame, in order.

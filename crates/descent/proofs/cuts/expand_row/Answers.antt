@@ -94,7 +94,7 @@ returns-then-row-le16-clause-back g c =
     let found = c.in-Some.ensures.some in
     let is = the-row track c.args.start row c.requires.at found in
     let new : Held g.row.N-Id.Denot = held (record row { readings = Some c.readings.new.into }) in
-    let left = opens-back track.rows c.args.start row new is.there is.starts is.closed found.alone refl in
+    let left = opens-back track.rows c.args.start row new is.there is.starts is.closed found.alone refl (take row.seg.len c.readings.new.into) refl in
     subst (λ (t : Track (Held g.row.N-Id.Denot)). CanGoBack row t.rows) (sym (c.open.ensures ∙ ap (λ k. record track { rows = replaced k (new ∷ []) track.rows }) is.starts)) left.can
 
 pub returns-then-row-le16-clause-restored : goal.returns-then-row-le16-clause-restored
@@ -104,7 +104,7 @@ returns-then-row-le16-clause-restored g c =
     let found = c.in-Some.ensures.some in
     let is = the-row track c.args.start row c.requires.at found in
     let new : Held g.row.N-Id.Denot = held (record row { readings = Some c.readings.new.into }) in
-    let left = opens-back track.rows c.args.start row new is.there is.starts is.closed found.alone refl in
+    let left = opens-back track.rows c.args.start row new is.there is.starts is.closed found.alone refl (take row.seg.len c.readings.new.into) refl in
     subst (λ (t : Track (Held g.row.N-Id.Denot)). restored (held row) t.rows ≡ track.rows) (sym (c.open.ensures ∙ ap (λ k. record track { rows = replaced k (new ∷ []) track.rows }) is.starts)) left.restored
 
 pub children-requires : goal.children-requires
@@ -258,7 +258,7 @@ returns-clause-back g c =
     let rr : (held r).row.readings ≡ None = rw (ap (λ k. k.readings) c.closed-right.ensures) refl in
     let at : l.seg.start ≡ c.args.start = starts ∙ is.starts in
     let found = c.in-Some.ensures.some in
-    let left = splits-back track.rows c.args.start (2 ^ half.0) row (held l) (held r) is.there is.starts is.closed found.alone at some full (omega arith) (omega arith) (omega arith) in
+    let left = splits-back track.rows c.args.start (2 ^ half.0) row (held l) (held r) is.there is.starts is.closed found.alone at some full (omega arith) (omega arith) (omega arith) lr rr in
     subst (λ (t : Track (Held g.row.N-Id.Denot)). CanGoBack row t.rows) (sym (c.split.ensures ∙ ap (λ k. record track { rows = replaced k (held l ∷ held r ∷ []) track.rows }) at)) left.can
 
 pub returns-clause-restored : goal.returns-clause-restored
@@ -287,7 +287,7 @@ returns-clause-restored g c =
     let rr : (held r).row.readings ≡ None = rw (ap (λ k. k.readings) c.closed-right.ensures) refl in
     let at : l.seg.start ≡ c.args.start = starts ∙ is.starts in
     let found = c.in-Some.ensures.some in
-    let left = splits-back track.rows c.args.start (2 ^ half.0) row (held l) (held r) is.there is.starts is.closed found.alone at some full (omega arith) (omega arith) (omega arith) in
+    let left = splits-back track.rows c.args.start (2 ^ half.0) row (held l) (held r) is.there is.starts is.closed found.alone at some full (omega arith) (omega arith) (omega arith) lr rr in
     subst (λ (t : Track (Held g.row.N-Id.Denot)). restored (held row) t.rows ≡ track.rows) (sym (c.split.ensures ∙ ap (λ k. record track { rows = replaced k (held l ∷ held r ∷ []) track.rows }) at)) left.restored
 
 pub open-requires-clause-small : goal.open-requires-clause-small

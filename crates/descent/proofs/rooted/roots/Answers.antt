@@ -14,4 +14,4 @@ invariant_of-result g c =
     let few = few-tracks (query_term_of c.args.q.now) (g.N.Nodes.lengths c.args.nodes.now) (g.N.Nodes.roots c.args.nodes.now) c.args.names.now c.in_ok-tables.tables.items is.heads in
     let names = c.requires.few in
     let apart = tracks-apart (query_term_of c.args.q.now) (g.N.Nodes.lengths c.args.nodes.now) (g.N.Nodes.roots c.args.nodes.now) c.args.names.now c.in_ok-tables.tables.items is.heads c.requires.apart in
-    record { few = omega arith; rising = is.rising; apart = apart; back = tt }
+    record { few = omega arith; rising = is.rising; apart = apart; back = tt; kept = tt }

@@ -1,6 +1,11 @@
 use Rattle.std.proofs.Common.{◌≡◌, Some, arith, ◌<◌, refl, sym, ap, subst, ◌∙◌, length, get_or, set, List}
 use Rattle.std.proofs.lemmas.List.{length-set}
 use Rattle.std.proofs.lemmas.List.Elements.{All-set, All-weaker}
+use Rattle.semantics.specs.Admission.{sums_of}
+use Rattle.expr.specs.Terms.{query_term_of}
+use Rattle.descent.specs.declared.cuts.Change.{Change}
+use Rattle.descent.specs.declared.cuts.State.{State}
+use Rattle.descent.specs.CutFields.{IsKeptAs}
 use Rattle.descent.specs.Rows.{Track, with_rows}
 use Rattle.descent.specs.Known.{AreApart}
 use Rattle.descent.specs.Sound.{IsSoundTrack}
@@ -12,6 +17,7 @@ use Rattle.descent.specs.Stepped.{IsClosedFrom}
 use Rattle.descent.proofs.Steps.{track-later}
 use Rattle.descent.proofs.Tracks.{has-at, closed-from, names-set, rising-set, heads-set, steps_left-set, expanded-at}
 use Rattle.descent.proofs.Backs.{back-at, restored-at, whole-again}
+use Rattle.descent.proofs.KeepingLaws.{kept-after}
 use Rattle.descent.proofs.cuts.Cut.expand.Goals as goal
 
 pub unreachable-requires : goal.unreachable-requires
@@ -39,12 +45,20 @@ invariant_of-self-2 g c =
     let new = c.expand_row.new.table in
     let lt : k < length xs = rw c.deref.ensures.value at c.in-Some.ensures.some.0 in
     let n = length-set xs k new in
+    let v = c.index_mut.ensures.value in
+    let same : new ≡ record (get_or xs k t) { rows = new.rows } = c.expand_row.ensures.same ∙ ap (λ (q : Track (Held g.row.I.Denot)). let u : Track (Held g.row.I.Denot) = record q { rows = new.rows } in u) v in
+    let back : restored (held c.in_ok-row.row) new.rows ≡ (get_or xs k t).rows = c.in_ok-row.ensures.restored ∙ ap (λ (q : Track (Held g.row.I.Denot)). q.rows) v in
+    let change : Change g.row.I.Denot = record { table = k; row = c.in_ok-row.row } in
+    let ss = sums_of (query_term_of c.self.inside.query) in
+    let ks = c.self.inside.kept.items in
     record {
       few = omega (arith, c.self.invariant.few, n);
       rising = rising-set 0 xs k new t c.self.invariant.rising lt (ap (λ (q : Track (Held g.row.I.Denot)). q.series) c.expand_row.ensures.same ∙ ap (λ (q : Track (Held g.row.I.Denot)). q.series) c.index_mut.ensures.value);
       apart = subst AreApart (sym (names-set xs k new t lt (ap (λ (q : Track (Held g.row.I.Denot)). q.name) c.expand_row.ensures.same ∙ ap (λ (q : Track (Held g.row.I.Denot)). q.name) c.index_mut.ensures.value))) c.self.invariant.apart;
       back = back-at xs k c.in_ok-row.row new lt c.in_ok-row.ensures.back
           (subst (λ (q : Track (Held g.row.I.Denot)). IsSoundTrack (with_rows row_in q)) (sym (whole-again t new (restored (held c.in_ok-row.row) new.rows) c.expand_row.ensures.same c.in_ok-row.ensures.restored)) c.expand_row.ensures.sound);
+      kept = subst (λ (s : State). IsKeptAs s (set xs k new) (Some change) ss ks) (sym c.after-self-inside.ensures)
+          (kept-after c.self.inside.state xs (set xs k new) c.self.inside.last change ss ks (restored-at xs k (held c.in_ok-row.row) new t lt same back) c.self.invariant.kept);
     }
 
 pub returns-clause-step : goal.returns-clause-step

@@ -4,6 +4,7 @@ use Rattle.descent.specs.Held.{Held, row_in}
 use Rattle.descent.specs.Rows.{Track, with_rows}
 use Rattle.descent.specs.Sound.{IsSoundTrack}
 use Rattle.descent.specs.Laid.{held, present}
+use Rattle.descent.proofs.Owners.{owned-opened}
 use Rattle.descent.proofs.Places.{AreRows, put-rows}
 use Rattle.descent.proofs.SoundSteps.{opened-sound, read-from, same-start}
 use Rattle.descent.proofs.tables.Table.open.Goals as goal
@@ -30,6 +31,7 @@ invariant_of-self g c =
     record {
       laid = rw e p.laid;
       few = rw e (omega (arith, c.self.invariant.few, n));
+      owned = rw e (owned-opened c.self.inside.places.items c.self.inside.owners.items c.args.self.now.rows c.args.row a c.self.invariant.owned c.requires.opened (put-rows c.self.inside.places.items c.args.self.now.rows c.args.row a c.requires.opened).1);
       sound = subst (λ (t : Track (Held g.row.I.Denot)). IsSoundTrack (with_rows row_in t)) (sym view) after;
     }
 

@@ -1,10 +1,11 @@
-use Rattle.std.proofs.Common.{◌/◌, ◌+◌, set, Some, List, map, sym, subst, ap, ap₂, ◌∙◌, arith}
+use Rattle.std.proofs.Common.{◌≡◌, ◌/◌, ◌+◌, ◌≤◌, length, refl, set, Some, List, map, sym, subst, ap, ap₂, ◌∙◌, arith}
 use Rattle.std.proofs.lemmas.List.{length-set}
 use Rattle.descent.specs.Held.{Held, row_in}
 use Rattle.descent.specs.Rows.{Track, with_rows}
 use Rattle.descent.specs.Sound.{IsSoundTrack}
-use Rattle.descent.specs.Laid.{held, present}
-use Rattle.descent.proofs.Places.{AreRows, split-rows}
+use Rattle.descent.specs.Laid.{blocks, held, present}
+use Rattle.descent.proofs.Owners.{owned-halves, row-fits, IsGiven}
+use Rattle.descent.proofs.Places.{AreRows, found-at, split-rows}
 use Rattle.descent.proofs.SoundSteps.{closed-sound, split-sound, same-start}
 use Rattle.descent.proofs.tables.Table.split.Goals as goal
 
@@ -43,6 +44,11 @@ invariant_of-self g c =
     record {
       laid = rw e p.laid;
       few = rw e (omega (arith, c.self.invariant.few, n, m));
+      owned =
+          let given : IsGiven c.self.inside.owners.items c.give.new.owners.items (first + c.args.left.seg.len / 16) (first + c.args.left.seg.len / 16 + c.div_ceil.result) (c.args.right.seg.start / 16) =
+          record { given = c.give.ensures.given; others = c.give.ensures.others; count = c.give.ensures.count } in
+          let end : first + c.args.left.seg.len / 16 + c.div_ceil.result ≡ first + c.args.left.seg.len / 16 + blocks c.args.right.seg.len = omega (arith, c.div_ceil.ensures) in
+          rw e (owned-halves xs c.self.inside.owners.items c.give.new.owners.items c.args.self.now.rows c.args.left c.args.right (first + c.args.left.seg.len / 16 + c.div_ceil.result) (c.args.right.seg.start / 16) a c.self.invariant.owned c.requires.halves end refl given);
       sound = subst (λ (t : Track (Held g.row.I.Denot)). IsSoundTrack (with_rows row_in t)) (sym view) after;
     }
 
@@ -52,3 +58,18 @@ returns g c =
     let a : AreRows c.self.inside.places.items c.args.self.now.rows = record { laid = c.self.invariant.laid; view = v } in
     ap₂ (λ (t : Track (Held g.row.I.Denot)) (rs : List (Held g.row.I.Denot)). record t { rows = rs }) c.self.view_is
     (ap (λ xs. map held (present xs)) c.put_two.ensures ∙ (split-rows c.self.inside.places.items c.args.self.now.rows c.args.left c.args.right a c.requires.halves).0.view)
+
+pub give-requires : goal.give-requires
+give-requires g c =
+    let v = ap (λ (t : Track (Held g.row.I.Denot)). t.rows) c.self.view_is in
+    let xs = c.self.inside.places.items in
+    let a : AreRows xs c.args.self.now.rows = record { laid = c.self.invariant.laid; view = v } in
+    let is = c.requires.halves in
+    let f = found-at c.args.left.seg.start xs c.args.self.now.rows (held is.before) a is.there (sym is.starts) in
+    let fits = row-fits 0 0 (c.args.left.seg.start / 16) xs f.row c.self.invariant.laid f.found in
+    let len : f.row.seg.len ≡ is.before.seg.len = ap (λ (k : Held g.row.I.Denot). k.row.seg.len) (sym f.same) in
+    let full = is.full in
+    let whole = is.whole in
+    let count = c.self.invariant.owned.count in
+    let up = c.div_ceil.ensures in
+    omega arith

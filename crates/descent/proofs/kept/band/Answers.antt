@@ -16,9 +16,9 @@ loop-j-preserved g c =
     let z = ap (λ (t : Track Row). blocks t.len) (shown-at tables j c.index-tables-j.result lt c.index-tables-j.is) in
     let e : band_of (shown tables) (j + 1) ≡ band_of (shown tables) j + blocks (track_at (shown tables) j).len = rw add-one refl in
     record {
-      place = omega (arith, e, z, c.blocks.ensures.count, c.loop-j.invariant.place);
-      bound = omega (arith, c.blocks.ensures.count, c.blocks.ensures.sound.few, c.loop-j.invariant.bound);
-      borders = borders-more tables j c.index-tables-j.result lt c.index-tables-j.is c.blocks.ensures.borders c.loop-j.invariant.borders;
+      place = omega (arith, e, z, c.blocks-in-loop-j.ensures.count, c.loop-j.invariant.place);
+      bound = omega (arith, c.blocks-in-loop-j.ensures.count, c.blocks-in-loop-j.ensures.sound.few, c.loop-j.invariant.bound);
+      borders = borders-more tables j c.index-tables-j.result lt c.index-tables-j.is c.blocks-in-loop-j.ensures.borders c.loop-j.invariant.borders;
     }
 
 pub returns-clause-borders : goal.returns-clause-borders

@@ -52,3 +52,4 @@ pub mod Borders
 pub mod PieceSteps
 pub mod RangeLaws
 pub mod StartIn
+pub mod Starting

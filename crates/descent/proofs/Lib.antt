@@ -50,3 +50,6 @@ pub mod CutSteps
 pub mod StartLaws
 pub mod Borders
 pub mod PieceSteps
+pub mod RangeLaws
+pub mod StartIn
+pub mod Starting

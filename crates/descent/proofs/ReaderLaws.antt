@@ -1,7 +1,6 @@
 -- What the readers of a sum read, and that they are its occurrences.
 use Rattle.std.proofs.Common.{◌≡◌, ℕ, zero, suc, ◌+◌, ◌-◌, ◌*◌, ◌/◌, ◌%◌, ◌^◌, ◌<◌, ◌≤◌, cond, Bool, true, false, ℤ, pos, negsuc, ◌+ℤ◌, ◌-ℤ◌, Option, Some, None, List, [], ◌∷◌, length, map, drop, get_or, arith, refl, sym, ap, ap₂, subst, ◌∙◌}
 use Rattle.std.specs.Prelude.{◌≤ℤ◌, ◌<ℤ◌, not, is_some, find}
-use Rattle.std.specs.Int.{int_max}
 use Rattle.std.specs.List.{All}
 use Rattle.std.proofs.lemmas.Bool.{false≢true}
 use Rattle.std.proofs.lemmas.Int.{ints, clamps}
@@ -34,7 +33,7 @@ use Rattle.descent.specs.Held.{Held, row_in, shown}
 use Rattle.descent.specs.Known.{facts_in}
 use Rattle.descent.specs.Readers.{no_reader, reader_at, reader_of, rows_read, track_at, track_of, AreReadersOf, IsAtPlace, IsReaderOf}
 use Rattle.descent.specs.Rows.{Row, Track, Cut, entries, segs_of_rows, with_rows}
-use Rattle.descent.specs.Said.{seg_read, AllReadAt, AreRead, IsSumFrom, ReadsAt}
+use Rattle.descent.specs.Said.{seg_read, AreRead, IsSumFrom, ReadsAt}
 use Rattle.descent.specs.Sound.{IsSound, IsSoundTrack}
 use Rattle.descent.specs.Sums.{count_of, first_of}
 use Rattle.descent.proofs.ChoiceLaws.{whole-count}

@@ -1,6 +1,6 @@
 -- What a cut says of offsets at which every reader reads the same segment.
-use Rattle.std.proofs.Common.{◌≡◌, ℕ, zero, suc, ◌+◌, ◌-◌, ◌*◌, ◌^◌, ◌<◌, ◌≤◌, max, Bool, true, false, inl, inr, ◌⊎◌, ℤ, pos, ◌+ℤ◌, ◌-ℤ◌, unsigned_abs, None, List, [], ◌∷◌, length, map, get_or, arith, refl, sym, ap, ap₂, subst, ◌∙◌}
-use Rattle.std.specs.Prelude.{◌≤ℤ◌, min, replicate, Result, Ok, Err, IfOk, OnOk}
+use Rattle.std.proofs.Common.{◌≡◌, ℕ, zero, suc, ◌+◌, ◌-◌, ◌*◌, ◌^◌, ◌<◌, ◌≤◌, max, true, inl, inr, ◌⊎◌, ℤ, pos, ◌+ℤ◌, unsigned_abs, List, length, map, get_or, arith, refl, sym, ap, ap₂, subst, ◌∙◌}
+use Rattle.std.specs.Prelude.{min, replicate, Result, Ok, Err, IfOk, OnOk}
 use Rattle.std.proofs.lemmas.Bool.{cases_lt}
 use Rattle.std.proofs.Math.Nat.{mul-le-mul}
 use Rattle.std.proofs.lemmas.Int.{ints}
@@ -9,19 +9,19 @@ use Rattle.semantics.specs.Admission.{SumTerm}
 use Rattle.semantics.specs.Measures.{names_in, rank_of, InRange}
 use Rattle.semantics.specs.Sums.{most_below, total_below}
 use Rattle.semantics.specs.Term.{Term}
-use Rattle.semantics.proofs.SumLaws.{abs-total_below, total_below-same, total_below-split}
+use Rattle.semantics.proofs.SumLaws.{abs-total_below, total_below-same}
 use Rattle.segment.specs.declared.segments.Seg.{Seg}
 use Rattle.segment.specs.Measure.{unit}
-use Rattle.poly.specs.Terms.{degree_of, norm_at}
+use Rattle.poly.specs.Terms.{norm_at}
 use Rattle.power_sum.specs.Totals.{total_of, value_in}
 use Rattle.bounds.specs.Cut.{Occurrence, estimate_from, occurrence_at, occurrences, segs_of, weight_at}
 use Rattle.bounds.specs.Magnitudes.{estimate_bound}
 use Rattle.bounds.specs.Pieces.{IsPiece}
 use Rattle.bounds.specs.Reads.{AreCovered, AreSane, IsSaneRead, Spans}
 use Rattle.bounds.specs.Segments.{covers, no_seg, seg_at, HasSaneSegs, OfEachName}
-use Rattle.bounds.specs.Shape.{estimate_by, reads, shape}
+use Rattle.bounds.specs.Shape.{estimate_by, shape}
 use Rattle.bounds.proofs.NumberBounds.{numbers_within}
-use Rattle.bounds.proofs.OccurrenceLaws.{at_occurrence, length-occurrences}
+use Rattle.bounds.proofs.OccurrenceLaws.{at_occurrence}
 use Rattle.bounds.proofs.PieceLaws.{by_pieces}
 use Rattle.bounds.proofs.ReadLaws.{over_each, sane_seg, spans_piece, AtPlace}
 use Rattle.bounds.proofs.ShapeLaws.{rank-shape}
@@ -41,9 +41,7 @@ use Rattle.descent.specs.Choice.{Has}
 use Rattle.descent.specs.Readers.{no_reader, reader_at, rows_read, track_at}
 use Rattle.descent.specs.Rows.{Row, Cut, entries, segs_of_rows}
 use Rattle.descent.specs.Said.{seg_read, AllStay, AreRead, ReadsAt, ReadsClosed, ReadTheSame, SomeComes, StaysFor}
-use Rattle.descent.specs.Sound.{IsSound}
-use Rattle.descent.specs.Standing.{IsClosedOver, IsEndOver}
-use Rattle.descent.specs.Sums.{count_of}
+use Rattle.descent.specs.Standing.{IsEndOver}
 use Rattle.descent.proofs.ReaderLaws.{few-offsets, found-in, place-read, range-is, reads-at, reads-read, seg-covers}
 use Rattle.descent.proofs.Standing.{seg-closed, seg-of-rows, stays-in, within-of}
 use Rattle.descent.proofs.TrackLaws.{segs-of-track}

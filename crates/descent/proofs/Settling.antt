@@ -1,5 +1,5 @@
 -- A piece of a kept sum is cut off and put right; all else stays.
-use Rattle.std.proofs.Common.{◌≡◌, ℕ, zero, suc, ◌+◌, ◌-◌, ◌*◌, ◌/◌, ◌^◌, ◌<◌, ◌≤◌, cond, true, false, inl, inr, ℤ, pos, negsuc, ◌+ℤ◌, List, [], length, get_or, set, get_or-set_same, get_or-set_other, length-set, refl, sym, ap, ap₂, subst, ◌∙◌, arith}
+use Rattle.std.proofs.Common.{◌≡◌, ℕ, zero, suc, ◌+◌, ◌-◌, ◌*◌, ◌/◌, ◌^◌, ◌<◌, ◌≤◌, cond, true, false, inl, inr, ℤ, pos, negsuc, ◌+ℤ◌, List, [], ◌∷◌, ◌++◌, length, take, get_or, set, get_or-set_same, get_or-set_other, length-set, refl, sym, ap, ap₂, subst, ◌∙◌, arith}
 use Rattle.std.specs.Prelude.{◌⊎◌, ◌≤ℤ◌, ◌&&◌, nat_le, nat_lt}
 use Rattle.std.proofs.lemmas.Bool.{cases_lt, cases_eq}
 use Rattle.std.proofs.lemmas.Bool.Decides.{nat_tests}
@@ -169,3 +169,9 @@ same-at k new c d e same others ne = record {
   estimates = ap (λ (es : List ℤ). reading es d) same.estimates ∙ get_or-set_other k.estimates c d e (pos 0) ne;
   weights = λ o. others o d ne;
 }
+
+-- a list in front of others
+pub taken-whole : (xs ys : List ℕ) (n : ℕ) → n ≡ length xs → take n (xs ++ ys) ≡ xs
+taken-whole [] ys n e = rw e refl
+taken-whole (x ∷ xs) ys zero e = absurd (omega arith)
+taken-whole (x ∷ xs) ys (suc n) e = ap (λ zs. x ∷ zs) (taken-whole xs ys n (omega arith))

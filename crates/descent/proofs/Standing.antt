@@ -1,9 +1,8 @@
 -- The row that stands at a position, and what a cut gives there.
-use Rattle.std.proofs.Common.{◌≡◌, ℕ, zero, suc, ◌+◌, ◌-◌, ◌*◌, ◌/◌, ◌^◌, ◌<◌, ◌≤◌, cond, Bool, true, false, inl, inr, ◌⊎◌, ℤ, pos, nat_le, nat_lt, ◌&&◌, unsigned_abs, List, [], ◌∷◌, ◌++◌, length, map, take, get_or, arith, refl, sym, ap, subst, ◌∙◌, append-nil}
-use Rattle.std.specs.Prelude.{Option, Some, None, is_some}
+use Rattle.std.proofs.Common.{◌≡◌, ℕ, zero, suc, ◌+◌, ◌-◌, ◌*◌, ◌/◌, ◌<◌, ◌≤◌, cond, Bool, true, false, inl, inr, ◌⊎◌, ℤ, pos, nat_le, nat_lt, ◌&&◌, List, [], ◌∷◌, ◌++◌, length, map, take, arith, refl, sym, ap, subst, ◌∙◌}
+use Rattle.std.specs.Prelude.{Some, None}
 use Rattle.std.specs.List.{All}
-use Rattle.std.specs.Option.{option_map}
-use Rattle.std.proofs.lemmas.Bool.{cases_Bool, cases_lt, false≢true}
+use Rattle.std.proofs.lemmas.Bool.{cases_lt}
 use Rattle.std.proofs.lemmas.Bool.Decides.{nat_tests}
 use Rattle.std.proofs.lemmas.Int.{ints}
 use Rattle.std.proofs.lemmas.List.Elements.{All-head, All-tail}
@@ -16,8 +15,8 @@ use Rattle.descent.specs.declared.tables.Row.{Row as TableRow}
 use Rattle.descent.specs.Choice.{Has}
 use Rattle.descent.specs.Held.{Held, row_in}
 use Rattle.descent.specs.Laid.{held}
-use Rattle.descent.specs.Rows.{Row, Track, units, segs_given, segs_of_row, segs_of_rows}
-use Rattle.descent.specs.Sound.{AreSmall, IsSoundRow, seg_of}
+use Rattle.descent.specs.Rows.{Row, units, segs_of_row, segs_of_rows}
+use Rattle.descent.specs.Sound.{IsSoundRow, seg_of}
 use Rattle.descent.proofs.SoundLaws.{row-touch}
 
 pub has-row : {I : Type 0} → (hs : List (Held I)) (h : Held I) → Has h hs → Has h.row (map row_in hs)

@@ -27,7 +27,8 @@ use Rattle.descent.proofs.CellLaws.{offsets}
 use Rattle.descent.proofs.RowLaws.{sound-track}
 use Rattle.descent.proofs.SettleSteps.{right-same, same-sums}
 use Rattle.descent.proofs.Tiles.{none-inside, piece-over}
-use Rattle.descent.proofs.Untouched.{same-range, same-readers, taken-in, IsReadAt, IsTouched}
+use Rattle.descent.proofs.GivenUp.{same-range}
+use Rattle.descent.proofs.Untouched.{taken-in, IsTouched}
 
 -- ---- shape and pieces make up all that is kept
 

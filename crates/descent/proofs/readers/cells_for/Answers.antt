@@ -1,4 +1,3 @@
-use Rattle.std.proofs.Common.{◌≡◌, ◌%◌, ◌<◌, length, arith}
 use Rattle.descent.proofs.ReaderLaws.{aligned}
 use Rattle.descent.proofs.readers.cells_for.Goals as goal
 

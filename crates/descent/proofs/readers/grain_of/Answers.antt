@@ -1,4 +1,4 @@
-use Rattle.std.proofs.Common.{◌≡◌, ◌%◌, arith}
+use Rattle.std.proofs.Common.{arith}
 use Rattle.descent.proofs.ReaderLaws.{at-place}
 use Rattle.descent.proofs.readers.grain_of.Goals as goal
 

@@ -1,4 +1,4 @@
-use Rattle.std.proofs.Common.{◌≡◌, ◌-◌, ◌+◌, ◌<◌, pos, length, map, get_or, ap, sym, subst, ◌∙◌, arith, ◌+ℤ◌, ℕ}
+use Rattle.std.proofs.Common.{◌≡◌, ◌-◌, sym, subst, arith}
 use Rattle.std.proofs.lemmas.List.{length-map}
 use Rattle.descent.specs.Held.{row_in, shown}
 use Rattle.descent.specs.Readers.{rows_read, track_at}

@@ -1,9 +1,8 @@
-use Rattle.std.proofs.Common.{◌≡◌, ◌≤◌, ◌<◌, ◌+◌, ℕ, ℤ, List, arith, rules, max, get_or, map, ap, sym, subst, ◌∙◌, length, unsigned_abs, ◌+ℤ◌, pos}
+use Rattle.std.proofs.Common.{◌≡◌, ℕ, ℤ, List, arith, rules, max, get_or, ap, sym, subst, ◌∙◌, length, ◌+ℤ◌, pos}
 use Rattle.std.proofs.lemmas.Int.{to_z-of_z}
 use mir.Val.{SFits, to_z, of_z}
 use mir.Syntax.{w64, w128}
 use Rattle.expr.specs.Terms.{term_of}
-use Rattle.segment.specs.declared.segments.Seg.{Seg}
 use Rattle.semantics.specs.Measures.{names_in}
 use Rattle.bounds.specs.Reads.{AreCovered, AreSane}
 use Rattle.bounds.specs.Shape.{shape}
@@ -12,8 +11,7 @@ use Rattle.error_prop.proofs.Arms.{length-weights}
 use Rattle.error_prop.proofs.Locals.{IsLocalOf}
 use Rattle.error_prop.proofs.SweepLaws.{SumsUp}
 use Rattle.descent.specs.Held.{shown}
-use Rattle.descent.specs.Said.{seg_read}
-use Rattle.descent.proofs.SayLaws.{few-read, same-covered, same-in-range, same-most, same-sums-up, same-total, AreSame, IsFew}
+use Rattle.descent.proofs.SayLaws.{same-covered, same-in-range, same-most, same-sums-up, same-total, AreSame}
 use Rattle.descent.proofs.said.say_same.Goals as goal
 
 pub local_form-requires-clause-covered : goal.local_form-requires-clause-covered

@@ -1,4 +1,4 @@
-use Rattle.std.proofs.Common.{◌≡◌, ◌<◌, ◌+◌, length, arith}
+use Rattle.std.proofs.Common.{◌≡◌, arith}
 use Rattle.std.specs.Prelude.{min}
 use Rattle.descent.specs.Held.{shown}
 use Rattle.descent.proofs.SayLaws.{next-stretch}

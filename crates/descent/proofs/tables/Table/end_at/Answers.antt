@@ -1,15 +1,6 @@
-use Rattle.std.proofs.Common.{◌≡◌, ◌≤◌, ◌<◌, ◌-◌, ◌+◌, ◌*◌, ◌/◌, ◌^◌, ℕ, ℤ, List, Option, None, Some, get_or, length, map, take, refl, sym, ap, subst, ◌∙◌, arith, true, pos, unsigned_abs}
-use Rattle.bounds.specs.Segments.{seg_at}
-use Rattle.descent.specs.declared.tables.Row.{Row}
-use Rattle.descent.specs.Choice.{Has}
-use Rattle.descent.specs.Held.{Held, row_in}
+use Rattle.std.proofs.Common.{map, refl, arith}
+use Rattle.descent.specs.Held.{row_in}
 use Rattle.descent.specs.Laid.{held}
-use Rattle.descent.specs.Rows.{Track, with_rows, segs_of_rows}
-use Rattle.descent.specs.Rows as rows
-use Rattle.descent.specs.Sound.{IsSoundTrack}
-use Rattle.descent.specs.Standing.{IsClosedOver, IsEndOver, IsOpenedOver}
-use Rattle.descent.proofs.Places.{AreRows, found-at}
-use Rattle.descent.proofs.SoundSteps.{row-sound}
 use Rattle.descent.proofs.Standing.{has-row, borders, end-border, rows-within}
 use Rattle.descent.proofs.tables.Table.end_at.Goals as goal
 

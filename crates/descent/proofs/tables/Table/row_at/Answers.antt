@@ -1,4 +1,4 @@
-use Rattle.std.proofs.Common.{◌≡◌, ◌/◌, ◌<◌, ℕ, List, Option, None, Some, get_or, length, refl, sym, ap, subst, ◌∙◌, arith, true, pos}
+use Rattle.std.proofs.Common.{◌≡◌, ◌/◌, ◌<◌, List, Option, None, Some, get_or, refl, sym, ap, subst, ◌∙◌, arith, true, pos}
 use Rattle.bounds.specs.Segments.{covers}
 use Rattle.descent.specs.declared.tables.Row.{Row}
 use Rattle.descent.specs.Choice.{Has}

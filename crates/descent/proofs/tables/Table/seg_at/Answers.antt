@@ -1,22 +1,14 @@
-use Rattle.std.proofs.Common.{◌≡◌, ◌≤◌, ◌<◌, ◌-◌, ◌+◌, ◌*◌, ◌/◌, ◌^◌, ℕ, ℤ, List, Option, None, Some, get_or, length, map, take, refl, sym, ap, subst, ◌∙◌, arith, rules, true, pos, unsigned_abs}
+use Rattle.std.proofs.Common.{◌≡◌, ◌≤◌, ◌<◌, ◌-◌, ◌^◌, get_or, map, take, sym, ap, subst, ◌∙◌, arith, rules, pos, unsigned_abs}
 use Rattle.std.proofs.lemmas.List.{get_or-take}
 use Rattle.std.proofs.lemmas.Int.{to_z-of_z}
 use mir.Val.{SFits}
 use mir.Syntax.{w32}
 use Rattle.semantics.specs.Readings.{reading}
 use Rattle.segment.specs.Measure.{unit_seg}
-use Rattle.bounds.specs.Segments.{seg_at}
-use Rattle.descent.specs.declared.tables.Row.{Row}
-use Rattle.descent.specs.Choice.{Has}
-use Rattle.descent.specs.Held.{Held, row_in}
+use Rattle.descent.specs.Held.{row_in}
 use Rattle.descent.specs.Laid.{held}
-use Rattle.descent.specs.Rows.{Track, with_rows, segs_of_rows}
-use Rattle.descent.specs.Rows as rows
-use Rattle.descent.specs.Sound.{IsSoundTrack}
-use Rattle.descent.specs.Standing.{IsClosedOver, IsEndOver, IsOpenedOver}
-use Rattle.descent.proofs.Places.{AreRows, found-at}
 use Rattle.descent.proofs.SoundSteps.{row-sound}
-use Rattle.descent.proofs.Standing.{has-row, held-closed, held-opened, end-border, rows-within, seg-closed, seg-of-rows, seg-opened, within-of}
+use Rattle.descent.proofs.Standing.{has-row, held-closed, held-opened, seg-closed, seg-of-rows, seg-opened, within-of}
 use Rattle.descent.proofs.tables.Table.seg_at.Goals as goal
 
 pub bounds-xs-position : goal.bounds-xs-position

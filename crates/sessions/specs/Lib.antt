@@ -5,3 +5,4 @@ pub mod Replies
 pub mod Script
 pub mod Steady
 pub mod Worked
+pub mod WorkedHub

@@ -3,6 +3,7 @@
 ghost use Rattle.sessions.specs.Alone.{EachAlone, RepliesFollow};
 ghost use Rattle.sessions.specs.Steady.{EachEnds, EachHolds, EachStays};
 ghost use Rattle.sessions.specs.Worked.{LinesAreWorked, RepliesAreWorked, ScriptsAreWorked};
+ghost use Rattle.sessions.specs.WorkedHub.{HubsAreWorked};
 
 use descent::{every_budget_is_met, every_cut_holds_the_value};
 use stats::plain_queries_stand_for_theirs;
@@ -13,6 +14,11 @@ pub fn scripts_are_worked()
     ensures lines { LinesAreWorked }
     ensures scripts { ScriptsAreWorked }
     ensures replies { RepliesAreWorked }
+{}
+
+/// Worked lists of events at a hub.
+pub fn hubs_are_worked()
+    ensures { HubsAreWorked }
 {}
 
 /// Each session is told what it would be told alone, whatever else happens at the hub.

@@ -49,7 +49,8 @@ pub record ScriptsAreWorked : Type 0 where
 pub record RepliesAreWorked : Type 0 where
   pub saved : reply_line Saved ≡ codes "saved\n"
   pub deep : reply_line (Refused (cause.Parse text.TooDeep)) ≡ codes "refused query too deep\n"
-  pub unknown_name : reply_line (Refused (cause.Admit (admission.Unknown (codes "z")))) ≡ codes "refused query unknown z\n"
+  pub unknown_name : reply_line (Refused (cause.Admit (admission.Unknown (codes "z"))))
+      ≡ codes "refused query unknown z\n"
   pub unknown : reply_line (Refused (cause.Unknown x)) ≡ codes "refused series unknown x\n"
   pub too_long : reply_line (Refused (cause.TooLong x)) ≡ codes "refused series too long x\n"
   pub full : reply_line (Refused cause.ArenaFull) ≡ codes "refused arena full\n"

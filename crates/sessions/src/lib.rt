@@ -9,7 +9,7 @@ mod scripts;
 mod words;
 
 pub use events::Event;
-pub use laws::scripts_are_worked;
+pub use laws::{hubs_are_worked, scripts_are_worked, sessions_are_alone, sessions_are_sound};
 pub use replies::{Cause, Reply, write_reply};
 pub use scripts::{ScriptErr, read_script};
 

@@ -1,7 +1,18 @@
+ghost use Rattle.std.specs.Prelude.{◌≡◌, ◌≤◌, ◌^◌, IfOk, length};
+
 use crate::{Cause, Event, Reply, ScriptErr, read_script, write_reply};
 use expr::Name;
 use interval::Iv;
+use std::alloc::{AllocError, Global};
 use std::test::Fail;
+
+fn line_feeds(alloc: Global, n: u32) -> Result<Vec<u8>, AllocError>
+    requires { n ≤ 2 ^ 24 }
+    ensures { IfOk result (λ v. length v.items ≡ n) }
+{
+    let text = vec![in alloc; b'\n'; n as usize]?;
+    Ok(text)
+}
 
 #[test]
 fn events_of_a_script(rt: HostRuntime) -> Result<(), Fail> {
@@ -46,6 +57,14 @@ fn refused_scripts(rt: HostRuntime) -> Result<(), Fail> {
             matches!(read_script(rt.alloc(), script), Err(ScriptErr::Line(k)) if k == line)
         );
     }
+    Ok(())
+}
+
+#[test]
+fn empty_lines(rt: HostRuntime) -> Result<(), Fail> {
+    let script = line_feeds(rt.alloc(), 1000)?;
+    let events = read_script(rt.alloc(), script.as_slice()).map_err(|_| "a script")?;
+    assert!(rt; events.is_empty());
     Ok(())
 }
 

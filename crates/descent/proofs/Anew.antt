@@ -140,9 +140,9 @@ recharge-split now i old new left right k sound lt s right_is room = subst (λ r
   each = λ row h. elim h [
     | inl e ↦ rw e (ap (number charges) (sym p-is) ∙ get_or-set_other (set k.charges p v) q p w 0 apart ∙ get_or-set_same k.charges p v 0 p-within ∙ ap (charge_in k i) s.left_is ∙ sym (charge-closed k i s.first s.halves.left_closed))
     | inr rest ↦ elim rest [
-        | inl e ↦ rw e (ap (number charges) (sym q-is) ∙ get_or-set_same (set k.charges p v) q w 0 q-within ∙ ap (charge_in k i) right_is ∙ sym (charge-closed k i s.second s.halves.right_closed))
-        | inr never ↦ absurd never
-      ]
+      | inl e ↦ rw e (ap (number charges) (sym q-is) ∙ get_or-set_same (set k.charges p v) q w 0 q-within ∙ ap (charge_in k i) right_is ∙ sym (charge-closed k i s.second s.halves.right_closed))
+      | inr never ↦ absurd never
+    ]
   ];
   others = λ r other.
       get_or-set_other (set k.charges p v) q r w 0 (λ e. other s.second (inr (inl refl)) (sym q-is ∙ sym e))
@@ -151,22 +151,31 @@ recharge-split now i old new left right k sound lt s right_is room = subst (λ r
   where
     p : ℕ
     p = band_of now i + left.start / 16
+
     q : ℕ
     q = band_of now i + right.start / 16
+
     v : ℕ
     v = charge_in k i left
+
     w : ℕ
     w = charge_in k i right
+
     charges : List ℕ
     charges = set (set k.charges p v) q w
+
     p-is : p ≡ place_of now i s.first
     p-is = ap (λ (g : Seg). band_of now i + g.start / 16) s.left_is
+
     q-is : q ≡ place_of now i s.second
     q-is = ap (λ (g : Seg). band_of now i + g.start / 16) right_is
+
     p-within : p < length k.charges
     p-within = let a = place-within now i s.first sound lt s.left_there in let e = p-is in omega arith
+
     q-within : q < length (set k.charges p v)
     q-within = let a = place-within now i s.second sound lt s.right_there in let e = q-is in let n = length-set k.charges p v in omega arith
+
     apart : p ≡ q → ⊥
     apart e =
         let n = s.halves.next in

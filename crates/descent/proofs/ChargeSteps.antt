@@ -46,9 +46,11 @@ charge-passed old new o c w i g put lt passed =
   where
     readers : (p : ℕ) → reader_at new.readers.items p ≡ reader_at old.readers.items p
     readers p = ap (λ r. reader_at r.items p) put.readers
+
     by : (b : Bool) (m k : ℕ) → (b ≡ true → m ≡ k) → cond b (g.l * m) 0 ≡ cond b (g.l * k) 0
     by true m k h = ap (λ z. g.l * z) (h refl)
     by false m k h = refl
+
     part : (p : ℕ) → part_of new i g p ≡ part_of old i g p
     part p =
         let r = reader_at old.readers.items p in
@@ -104,9 +106,9 @@ charged-opened cut old new o c w read sound put lt is opened same h = record {
   each = λ i row li there.
       ap (λ (cs : List ℕ). number cs (place_of cut i row)) same ∙ h.each i row li there
       ∙ sym (row-passed old new o c w i row put lt (λ closed t cov.
-        let e = is-it cut old o c i row read sound is t there cov in
-        let bad : false ≡ true = sym closed ∙ ap (λ (r : Row). is_some r.readings) e ∙ opened in
-        cc));
+      let e = is-it cut old o c i row read sound is t there cov in
+      let bad : false ≡ true = sym closed ∙ ap (λ (r : Row). is_some r.readings) e ∙ opened in
+      cc));
   others = λ p some. h.others p (subst (λ (cs : List ℕ). 0 < number cs p) same some);
 }
 
@@ -127,18 +129,18 @@ charged-closed cut old new o c w g sound put lt is charges h =
       room = subst (λ (cs : List ℕ). band_of cut (length cut) ≤ length cs) (sym charges) (let n = length-set old.charges place v in omega arith);
       borders = h.borders;
       each = λ i row li there. ap (λ (cs : List ℕ). number cs (place_of cut i row)) charges ∙ elim (cases_eq (place_of cut i row) place) [
-          | inl e ↦
-              let one = one-place cut i j row read sound h.borders li is.track there is.there e in
-              ap (number (set old.charges place v)) e ∙ get_or-set_same old.charges place v 0 below
-              ∙ sym (ap (λ (r : Row). row_charge new i r) one.row ∙ ap (λ k. row_charge new k read) one.track)
-          | inr ne ↦
-              get_or-set_other old.charges place (place_of cut i row) v 0 ne ∙ h.each i row li there
-              ∙ sym (row-passed old new o c w i row put lt (λ closed t cov.
-                let e = is-it cut old o c i row read sound is t there cov in
-                ne (ap (place_of cut i) e ∙ ap (λ k. place_of cut k read) (sym t))))
-        ];
+        | inl e ↦
+            let one = one-place cut i j row read sound h.borders li is.track there is.there e in
+            ap (number (set old.charges place v)) e ∙ get_or-set_same old.charges place v 0 below
+            ∙ sym (ap (λ (r : Row). row_charge new i r) one.row ∙ ap (λ k. row_charge new k read) one.track)
+        | inr ne ↦
+            get_or-set_other old.charges place (place_of cut i row) v 0 ne ∙ h.each i row li there
+            ∙ sym (row-passed old new o c w i row put lt (λ closed t cov.
+            let e = is-it cut old o c i row read sound is t there cov in
+            ne (ap (place_of cut i) e ∙ ap (λ k. place_of cut k read) (sym t))))
+      ];
       others = λ p some. elim (cases_eq p place) [
-          | inl e ↦ (j, read, is.track, is.there, sym e)
-          | inr ne ↦ h.others p (subst (λ k. 0 < k) (get_or-set_other old.charges place p v 0 ne) (subst (λ (cs : List ℕ). 0 < number cs p) charges some))
-        ];
+        | inl e ↦ (j, read, is.track, is.there, sym e)
+        | inr ne ↦ h.others p (subst (λ k. 0 < k) (get_or-set_other old.charges place p v 0 ne) (subst (λ (cs : List ℕ). 0 < number cs p) charges some))
+      ];
     }

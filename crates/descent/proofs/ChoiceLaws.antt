@@ -30,10 +30,10 @@ use Rattle.error_prop.specs.Sums.{charge_of as place_charge, charges_of}
 use Rattle.error_prop.proofs.QueryLaws.{bound_fits, fits, most_within}
 use Rattle.descent.specs.Rows.{Row, Track, Cut, units, segs_given, segs_of_row, segs_of_rows, entry_of, entries}
 use Rattle.descent.specs.Sums.{first_of, count_of, charge_of, sum_in}
-use Rattle.descent.specs.declared.choosing.Charged.{Charged}
+use Rattle.descent.specs.Choice.{Charged}
 use Rattle.descent.specs.Choice.{row_of as charged_by}
 use Rattle.descent.specs.Choice.{At, Has, choice, pick_if, heavier, heaviest, Line, side_by_side, says_weight, weight_of, whole_error, charge, charged_row, charged_in, charged_rows}
-use Rattle.descent.specs.Charging.{later, heaviest_on, weight_in, IsFirst, IsLight, charges_at, charge_from, charged_from, charged_on}
+use Rattle.descent.specs.Charging.{weight_in, IsFirst, IsLight}
 use Rattle.descent.proofs.Exact.{units-some}
 use Rattle.descent.proofs.Heaviest.{heaviest-found}
 use Rattle.descent.proofs.Lines.{AreOf, lines_are}
@@ -52,71 +52,6 @@ some-not n some = ne_eqb n 0 (λ e. omega arith)
 
 none-is : (n : ℕ) → n ≡ 0 → (n == 0) ≡ true
 none-is n e = eq-eqb n 0 e
-
-later-free-none : {A : Type 0} → (w : A → ℕ) (y : A) → w y ≡ 0 → later w None y ≡ None
-later-free-none w y e = rw (none-is (w y) e) refl
-
-later-some : {A : Type 0} → (w : A → ℕ) (y : A) → 0 < w y → later w None y ≡ Some y
-later-some w y some = rw (some-not (w y) some) refl
-
-later-low : {A : Type 0} → (w : A → ℕ) (x y : A) → w y ≤ w x → later w (Some x) y ≡ Some x
-later-low w x y le = rw (is-le (w y) (w x) le) refl
-
-later-high : {A : Type 0} → (w : A → ℕ) (x y : A) → w x < w y → later w (Some x) y ≡ Some y
-later-high w x y lt = rw (not-le (w y) (w x) lt) refl
-
-heavier-free : {A : Type 0} → (w : A → ℕ) (x : A) → w x ≡ 0 → heavier w x None ≡ None
-heavier-free w x e = rw (none-is (w x) e) refl
-
-heavier-some : {A : Type 0} → (w : A → ℕ) (x : A) → 0 < w x → heavier w x None ≡ Some x
-heavier-some w x some = rw (some-not (w x) some) refl
-
-heavier-first : {A : Type 0} → (w : A → ℕ) (x y : A) → w y ≤ w x → heavier w x (Some y) ≡ Some x
-heavier-first w x y le = rw (is-le (w y) (w x) le) refl
-
-heavier-second : {A : Type 0} → (w : A → ℕ) (x y : A) → w x < w y → heavier w x (Some y) ≡ Some y
-heavier-second w x y lt = rw (not-le (w y) (w x) lt) refl
-
-heavier-later : {A : Type 0} → (w : A → ℕ) (x : A) (o : Option A) (y : A) → heavier w x (later w o y) ≡ later w (heavier w x o) y
-heavier-later w x None y = elim (cases_lt 0 (w y)) [
-  | inr none ↦ elim (cases_lt 0 (w x)) [
-    | inr free ↦ ap (heavier w x) (later-free-none w y (omega arith)) ∙ heavier-free w x (omega arith) ∙ sym (ap (λ o. later w o y) (heavier-free w x (omega arith)) ∙ later-free-none w y (omega arith))
-    | inl some ↦ ap (heavier w x) (later-free-none w y (omega arith)) ∙ heavier-some w x some ∙ sym (ap (λ o. later w o y) (heavier-some w x some) ∙ later-low w x y (omega arith))
-  ]
-  | inl some ↦ elim (cases_lt 0 (w x)) [
-    | inr free ↦ ap (heavier w x) (later-some w y some) ∙ heavier-second w x y (omega arith) ∙ sym (ap (λ o. later w o y) (heavier-free w x (omega arith)) ∙ later-some w y some)
-    | inl more ↦ ap (heavier w x) (later-some w y some) ∙ sym (ap (λ o. later w o y) (heavier-some w x more))
-  ]
-]
-heavier-later w x (Some z) y = elim (cases_lt (w z) (w y)) [
-  | inr le ↦ elim (cases_lt (w x) (w z)) [
-    | inr big ↦ ap (heavier w x) (later-low w z y le) ∙ heavier-first w x z big ∙ sym (ap (λ o. later w o y) (heavier-first w x z big) ∙ later-low w x y (omega arith))
-    | inl low ↦ ap (heavier w x) (later-low w z y le) ∙ heavier-second w x z low ∙ sym (ap (λ o. later w o y) (heavier-second w x z low) ∙ later-low w z y le)
-  ]
-  | inl lt ↦ elim (cases_lt (w x) (w z)) [
-    | inr big ↦ ap (heavier w x) (later-high w z y lt) ∙ sym (ap (λ o. later w o y) (heavier-first w x z big))
-    | inl low ↦ ap (heavier w x) (later-high w z y lt) ∙ heavier-second w x y (omega arith) ∙ sym (ap (λ o. later w o y) (heavier-second w x z low) ∙ later-high w z y lt)
-  ]
-]
-
-heaviest-behind : {A : Type 0} → (w : A → ℕ) (xs : List A) (y : A) → heaviest w (xs ++ y ∷ []) ≡ later w (heaviest w xs) y
-heaviest-behind w [] y = refl
-heaviest-behind w (x ∷ xs) y = ap (heavier w x) (heaviest-behind w xs y) ∙ heavier-later w x (heaviest w xs) y
-
-heaviest-on : {A : Type 0} → (w : A → ℕ) (xs ys : List A) → heaviest_on w (heaviest w xs) ys ≡ heaviest w (xs ++ ys)
-heaviest-on w xs [] = ap (heaviest w) (sym (append-nil xs))
-heaviest-on w xs (y ∷ ys) = ap (λ o. heaviest_on w o ys) (sym (heaviest-behind w xs y)) ∙ heaviest-on w (xs ++ y ∷ []) ys ∙ ap (heaviest w) (append_assoc xs (y ∷ []) ys)
-
-pub heaviest-all : {A : Type 0} → (w : A → ℕ) (ys : List A) → heaviest_on w None ys ≡ heaviest w ys
-heaviest-all w ys = heaviest-on w [] ys
-
-pub heaviest_on-append : {A : Type 0} → (w : A → ℕ) (best : Option A) (xs ys : List A) → heaviest_on w best (xs ++ ys) ≡ heaviest_on w (heaviest_on w best xs) ys
-heaviest_on-append w best [] ys = refl
-heaviest_on-append w best (x ∷ xs) ys = heaviest_on-append w (later w best x) xs ys
-
-pub later-free : (best : Option Charged) (c : Charged) → c.charge ≡ 0 → later charge best c ≡ best
-later-free None c e = rw (none-is c.charge e) refl
-later-free (Some x) c e = rw (is-le c.charge x.charge (omega arith)) refl
 
 -- ---- the line that is found
 
@@ -165,7 +100,7 @@ no-line [] ls h = refl
 no-line (s ∷ ss) [] h = refl
 no-line (s ∷ ss) (l ∷ ls) h = ap (heavier weight_of (record { sum = s; says = l })) (no-line ss ls (λ j. h (suc j))) ∙ rw (none-is (says_weight l) (h zero)) refl
 
--- ---- the charges of the k-th sum
+-- ---- the sums of a query
 
 pub sums-length : (q : QueryTerm) → IsPlain q → length (sums_of q) ≡ sums_in q
 sums-length (number v) p = refl
@@ -176,19 +111,6 @@ sums-length (add p q) h = omega (arith, length-append (sums_of p) (sums_of q), s
 sums-length (sub p q) h = omega (arith, length-append (sums_of p) (sums_of q), sums-length p h.0, sums-length q h.1)
 sums-length (mul p q) h = omega (arith, length-append (sums_of p) (sums_of q), sums-length p h.0, sums-length q h.1)
 
-at-left : {A : Type 0} → (k : ℕ) (x : A) (us vs : List A) → k < length us → At k x (us ++ vs) → At k x us
-at-left k x [] vs lt h = absurd (omega arith)
-at-left zero x (u ∷ us) vs lt h = h
-at-left (suc k) x (u ∷ us) vs lt h = at-left k x us vs (omega arith) h
-
-at-right : {A : Type 0} → (k m : ℕ) (x : A) (us vs : List A) → k ≡ length us + m → At k x (us ++ vs) → At m x vs
-at-right k m x [] vs e h = subst (λ j. At j x vs) (omega arith) h
-at-right zero m x (u ∷ us) vs e h = absurd (omega arith)
-at-right (suc k) m x (u ∷ us) vs e h = at-right k m x us vs (omega arith) h
-
-abbrev pub own_charges : List Entry → SumTerm → List ℕ
-own_charges es s = let r = range_or s.range (domain_of (end_of_name es) s.series) in charges_of es s.series r.left (positions_in r.left r.right)
-
 -- the positions of a whole domain
 pub whole-count : (d : Range) → positions_in (whole d).left (whole d).right ≡ positions_in d.left d.right
 whole-count d = go (d.right -ℤ d.left) (int_max d.left d.right -ℤ d.left) (omega (arith, ints, clamps)) (omega (arith, ints, clamps))
@@ -196,88 +118,6 @@ whole-count d = go (d.right -ℤ d.left) (int_max d.left d.right -ℤ d.left) (o
     go : (y z : ℤ) → (pos 0 ≤ℤ y → z ≡ y) → (y <ℤ pos 0 → z ≡ pos 0) → from_zero z ≡ from_zero y
     go (pos n) z h g = ap from_zero (h (omega (arith, ints)))
     go (negsuc n) z h g = ap from_zero (g (omega (arith, ints)))
-
-pub own-whole : (es : List Entry) (t : Term) (range : Option Range) → charges_of es t (range_over es t range).left (positions_in (range_over es t range).left (range_over es t range).right) ≡ own_charges es (record { series = t; range = range })
-own-whole es t (Some range) = refl
-own-whole es t None = ap (charges_of es t (domain_of (end_of_name es) t).left) (whole-count (domain_of (end_of_name es) t))
-
-part-charges : (es : List Entry) (p q : QueryTerm) (k : ℕ) (s : SumTerm) → IsPlain p → At k s (sums_of p ++ sums_of q)
-    → ((j : ℕ) → At j s (sums_of p) → charges_at es p j ≡ own_charges es s) → ((j : ℕ) → At j s (sums_of q) → charges_at es q j ≡ own_charges es s)
-    → (if nat_lt k (sums_in p) then charges_at es p k else charges_at es q (k - sums_in p)) ≡ own_charges es s
-part-charges es p q k s plain at left right =
-    let n = sums-length p plain in
-    elim (cases_lt k (sums_in p)) [
-      | inl lt ↦ let b : nat_lt k (sums_in p) ≡ true = grind (arith, nat_tests) in rw b (left k (at-left k s (sums_of p) (sums_of q) (omega arith) at))
-      | inr ge ↦ let b : nat_lt k (sums_in p) ≡ false = grind (arith, nat_tests) in rw b (right (k - sums_in p) (at-right k (k - sums_in p) s (sums_of p) (sums_of q) (omega arith) at))
-    ]
-
-pub charges-are : (es : List Entry) (q : QueryTerm) (k : ℕ) (s : SumTerm) → IsPlain q → At k s (sums_of q) → charges_at es q k ≡ own_charges es s
-charges-are es (number v) k s p at = absurd at
-charges-are es (sum t range) zero s p at = ap (own_charges es) (sym at)
-charges-are es (sum t range) (suc k) s p at = absurd at
-charges-are es (variance t range) k s p at = absurd p
-charges-are es (covariance t u range) k s p at = absurd p
-charges-are es (add p q) k s h at = part-charges es p q k s h.0 at (λ j a. charges-are es p j s h.0 a) (λ j a. charges-are es q j s h.1 a)
-charges-are es (sub p q) k s h at = part-charges es p q k s h.0 at (λ j a. charges-are es p j s h.0 a) (λ j a. charges-are es q j s h.1 a)
-charges-are es (mul p q) k s h at = part-charges es p q k s h.0 at (λ j a. charges-are es p j s h.0 a) (λ j a. charges-are es q j s h.1 a)
-
--- ---- the charges of the rows
-
-slice-behind : (front : List ℕ) (x : ℕ) (behind : List ℕ) → slice_index (front ++ (x ∷ behind)) (length front) ≡ x
-slice-behind [] x behind = refl
-slice-behind (y ∷ front) x behind = slice-behind front x behind
-
-abbrev row_weight : Cut → SumTerm → List ℕ → Seg → ℕ
-row_weight cut s name = charge_by (greatest_weight (segs_of (entries cut)) s.series (first_of cut s) (count_of cut s)) s.series (first_of cut s) name
-
-row-charge : (cut : Cut) (s : SumTerm) (name : List ℕ) (row : Row) (front behind : List ℕ)
-    → charge_from (front ++ (map (row_weight cut s name) (segs_of_row row) ++ behind)) (length front) row ≡ charge_of cut s name row
-row-charge cut s name row front behind = by row.readings
-  where
-    f : Seg → ℕ
-    f = row_weight cut s name
-
-    by : (o : Option (List ℤ)) → (if is_some o then 0 else slice_index (front ++ (map f (segs_given row.seg o) ++ behind)) (length front)) ≡ sum_by f (segs_given row.seg o)
-    by None = slice-behind front (f row.seg) behind ∙ one
-      where
-        one : f row.seg ≡ sum_by f (row.seg ∷ [])
-        one = omega arith
-    by (Some xs) = sym (units-free (greatest_weight (segs_of (entries cut)) s.series (first_of cut s) (count_of cut s)) s.series (first_of cut s) name row.seg.start xs)
-
-pub rows-charged : (cut : Cut) (s : SumTerm) (track : Track Row) (rows : List Row) (front behind : List ℕ)
-    → charged_from track.series (front ++ (map (row_weight cut s track.name) (segs_of_rows rows) ++ behind)) (length front) rows ≡ map (charged_row cut s track) rows
-rows-charged cut s track [] front behind = refl
-rows-charged cut s track (row ∷ rows) front behind =
-    let f = row_weight cut s track.name in
-    let own = map f (segs_of_row row) in
-    let rest = map f (segs_of_rows rows) in
-    let all : front ++ (map f (segs_of_row row ++ segs_of_rows rows) ++ behind) ≡ front ++ (own ++ (rest ++ behind)) = ap (λ xs. front ++ xs) (ap (λ xs. xs ++ behind) (map-append f (segs_of_row row) (segs_of_rows rows)) ∙ append_assoc own rest behind) in
-    let moved : front ++ (own ++ (rest ++ behind)) ≡ (front ++ own) ++ (rest ++ behind) = sym (append_assoc front own (rest ++ behind)) in
-    let long : length front + length (segs_of_row row) ≡ length (front ++ own) = omega (arith, length-append front own, length-map (segs_of_row row) f) in
-    ap (λ cs. charged_from track.series cs (length front) (row ∷ rows)) all
-    ∙ ap₂ (λ (c : ℕ) (cs : List Charged). (let x : Charged = record { series = track.series; start = row.seg.start; charge = c } in x) ∷ cs)
-    (row-charge cut s track.name row front (rest ++ behind))
-    (ap₂ (λ cs at. charged_from track.series cs at rows) moved long ∙ rows-charged cut s track rows (front ++ own) behind)
-
-pub tracks-charged : (cut : Cut) (s : SumTerm) (tracks : Cut) (front : List ℕ)
-    → charged_on (front ++ map (place_charge (entries cut) s.series (first_of cut s) (count_of cut s)) (places (entries tracks))) (length front) tracks ≡ charged_in cut s tracks
-tracks-charged cut s [] front = refl
-tracks-charged cut s (track ∷ tracks) front =
-    let f = row_weight cut s track.name in
-    let p = place_charge (entries cut) s.series (first_of cut s) (count_of cut s) in
-    let own = map f (segs_of_rows track.rows) in
-    let rest = map p (places (entries tracks)) in
-    let here : map p (map (under track.name) (segs_of_rows track.rows)) ≡ own = map-under p f track.name (segs_of_rows track.rows) (λ g. refl) in
-    let all : front ++ map p (map (under track.name) (segs_of_rows track.rows) ++ places (entries tracks)) ≡ front ++ (own ++ rest) =
-    ap (λ xs. front ++ xs) (map-append p (map (under track.name) (segs_of_rows track.rows)) (places (entries tracks)) ∙ ap (λ xs. xs ++ rest) here) in
-    let long : length front + length (segs_of_rows track.rows) ≡ length (front ++ own) = omega (arith, length-append front own, length-map (segs_of_rows track.rows) f) in
-    ap (λ cs. charged_on cs (length front) (track ∷ tracks)) all
-    ∙ ap₂ (λ (xs ys : List Charged). xs ++ ys) (rows-charged cut s track track.rows front rest)
-    (ap₂ (λ cs at. charged_on cs at tracks) (sym (append_assoc front own rest)) long ∙ tracks-charged cut s tracks (front ++ own))
-  where
-    map-under : (p : Place → ℕ) (f : Seg → ℕ) (name : List ℕ) (gs : List Seg) → ((g : Seg) → p (under name g) ≡ f g) → map p (map (under name) gs) ≡ map f gs
-    map-under p f name [] h = refl
-    map-under p f name (g ∷ gs) h = ap₂ (λ (x : ℕ) (xs : List ℕ). x ∷ xs) (h g) (map-under p f name gs h)
 
 -- ---- the numbers of the lines are small
 
@@ -338,23 +178,11 @@ of-length E (s ∷ ss) (l ∷ ls) a = ap suc (of-length E ss ls a.2)
 pub lines-length : (cut : Cut) (q : QueryTerm) (k : ℕ) → IsPlain q → length (lines_of q (sums_over (entries cut) q) k) ≡ sums_in q
 lines-length cut q k p = of-length (sum_in cut) (sums_of q) (lines_of q (sums_over (entries cut) q) k) (lines_are cut q k p) ∙ sums-length q p
 
-pub charges-length : (es : List Entry) (s : SumTerm) → length (own_charges es s) ≡ length (flat es)
-charges-length es s = length-map (places es) _ ∙ length-places es
-
 pub first-at : (cut : Cut) (q : QueryTerm) (sums : List SumLine) (k : ℕ) → IsPlain q → sums ≡ lines_of q (sums_over (entries cut) q) (counts cut q) → IsFirst (weight_in sums) (length sums) k
     → IsLineAt (sums_of q) (lines_of q (sums_over (entries cut) q) (counts cut q)) k
 first-at cut q sums k p e is =
     line-at (sum_in cut) (sums_of q) (lines_of q (sums_over (entries cut) q) (counts cut q)) k (lines_are cut q (counts cut q) p)
     (subst (λ ls. IsFirst (weight_in ls) (length ls) k) e is)
-
-pub choice-is : (cut : Cut) (q : QueryTerm) (sums : List SumLine) (charges : List ℕ) (k : ℕ) → IsPlain q → sums ≡ lines_of q (sums_over (entries cut) q) (counts cut q) → IsFirst (weight_in sums) (length sums) k
-    → charges ≡ charges_at (entries cut) q k → pick_if (heaviest_on charge None (charged_on charges 0 cut)) ≡ choice q cut
-choice-is cut q sums charges k p e is charged =
-    let l = first-at cut q sums k p e is in
-    let s = l.line.sum in
-    let own : charges ≡ own_charges (entries cut) s = charged ∙ charges-are (entries cut) q k s p l.sum in
-    let rows : charged_on charges 0 cut ≡ charged_rows cut s = ap (λ cs. charged_on cs 0 cut) own ∙ tracks-charged cut s cut [] in
-    ap pick_if (ap (heaviest_on charge None) rows ∙ heaviest-all charge (charged_rows cut s)) ∙ sym (ap (λ o. pick_if (charged_by cut o)) l.found)
 
 pub choice-none : (cut : Cut) (q : QueryTerm) (sums : List SumLine) → sums ≡ lines_of q (sums_over (entries cut) q) (counts cut q) → ((j : ℕ) → weight_in sums j ≡ 0) → choice q cut ≡ None
 choice-none cut q sums e none =

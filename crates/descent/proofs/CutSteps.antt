@@ -112,9 +112,9 @@ cut-at k c next n cells piece le at some most =
       low = elim (cases_lt c next) [
         | inl lt ↦ lt
         | inr ge ↦ elim (cases_eq next c) [
-            | inl e ↦ let z = ap (offset_of k.cells) e in absurd (omega arith)
-            | inr ne ↦ let r = os.rising next c (omega arith) (omega arith) in absurd (omega arith)
-          ]
+          | inl e ↦ let z = ap (offset_of k.cells) e in absurd (omega arith)
+          | inr ne ↦ let r = os.rising next c (omega arith) (omega arith) in absurd (omega arith)
+        ]
       ];
       high = elim (cases_lt (c + lens_of k c) next) [
         | inr ge ↦ ge

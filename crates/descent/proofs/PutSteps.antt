@@ -48,8 +48,10 @@ reads-place cut k o c r can lt below e = subst (λ q. ReadsPlace cut q (offset_o
   where
     inside : IsInside cut k.cells.count (reader_at k.readers.items o)
     inside = can.inside o lt
+
     less : offset_of k.cells c < k.cells.count
     less = let os = offsets k.cells can.read.cells in let l = os.last in let h = os.rising c (cells_in k.cells) below (omega arith) in omega arith
+
     some : 0 < k.cells.count
     some = omega (arith, less)
 

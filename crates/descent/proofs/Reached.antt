@@ -21,7 +21,7 @@ use Rattle.descent.specs.declared.Pick.{Pick}
 use Rattle.descent.specs.declared.descents.Answer.{Answer}
 use Rattle.descent.specs.Rows.{Row, Track, Cut, with_rows, segs_given, entries}
 use Rattle.descent.specs.Sums.{first_of, count_of, charge_of, interval_in, width_of, IsWithin}
-use Rattle.descent.specs.declared.choosing.Charged.{Charged}
+use Rattle.descent.specs.Choice.{Charged}
 use Rattle.descent.specs.Choice.{Has, Line, lines_in, weight_of, heaviest, charged_row, charged_in, charged_rows, charge, choice, pick_of, pick_if}
 use Rattle.descent.specs.Choice.{row_of as charged_by}
 use Rattle.descent.specs.Descents.{Node, Nodes, closed, opened, below, cut_of, root_nodes, root_track, roots_from, roots, is_at, expanded_row, expanded_track, expanded, expanded_if, next, after, Meets}

@@ -163,11 +163,11 @@ one-place cut i j a b sound borders li lj ha hb e =
     elim (cases_lt i j) [
       | inl lt ↦ let h = band-behind cut i j lt in absurd (omega arith)
       | inr ge ↦ elim (cases_lt j i) [
-          | inl lt ↦ let h = band-behind cut j i lt in absurd (omega arith)
-          | inr le ↦
-              let same : j ≡ i = omega arith in
-              let hb' : Has b (track_at cut i).rows = subst (λ k. Has b (track_at cut k).rows) same hb in
-              let bands : band_of cut j ≡ band_of cut i = ap (band_of cut) same in
-              record { track = sym same; row = one-track cut i a b sound borders li ha hb' (omega arith) }
-        ]
+        | inl lt ↦ let h = band-behind cut j i lt in absurd (omega arith)
+        | inr le ↦
+            let same : j ≡ i = omega arith in
+            let hb' : Has b (track_at cut i).rows = subst (λ k. Has b (track_at cut k).rows) same hb in
+            let bands : band_of cut j ≡ band_of cut i = ap (band_of cut) same in
+            record { track = sym same; row = one-track cut i a b sound borders li ha hb' (omega arith) }
+      ]
     ]

@@ -53,12 +53,12 @@ keeps-joints : (cut : Cut) (t : Term) (c : ℕ) (old new : KeptSum) → IsShaped
 keeps-joints cut t c old new shaped some is d h = elim (cases_lt d c) [
   | inl lt ↦ let e = (is.others d (inl lt)).lens in omega arith
   | inr ge ↦ elim (cases_eq d c) [
-      | inl e ↦ subst (λ k. 0 < lens_of new k) (sym e) is.piece
-      | inr ne ↦ elim (cases_lt d (c + lens_of old c)) [
-          | inl below ↦ let n = none-inside (lens_of old) (cells_in old.cells) c d shaped.tiled some (omega arith) below in absurd (omega arith)
-          | inr behind ↦ let e = (is.others d (inr behind)).lens in omega arith
-        ]
+    | inl e ↦ subst (λ k. 0 < lens_of new k) (sym e) is.piece
+    | inr ne ↦ elim (cases_lt d (c + lens_of old c)) [
+      | inl below ↦ let n = none-inside (lens_of old) (cells_in old.cells) c d shaped.tiled some (omega arith) below in absurd (omega arith)
+      | inr behind ↦ let e = (is.others d (inr behind)).lens in omega arith
     ]
+  ]
 ]
 
 joint-later : (old new : KeptSum) (u : ℕ) → IsSameSum old new → ((d : ℕ) → 0 < lens_of old d → 0 < lens_of new d) → IsJointOf old u → IsJointOf new u
@@ -84,14 +84,19 @@ settle-step cut t from until c old mid new was low lt within joint some is = rec
   where
     same : IsSameSum old new
     same = same-sums old mid new was.same is.same
+
     step : (d : ℕ) → 0 < lens_of mid d → 0 < lens_of new d
     step = keeps-joints cut t c mid new was.shaped some is
+
     joints : (d : ℕ) → 0 < lens_of old d → 0 < lens_of new d
     joints d h = step d (was.joints d h)
+
     high : c + lens_of new c ≤ until
     high = joint-behind (lens_of new) (cells_in new.cells) c until is.shaped.tiled is.piece lt (joint-later old new until same joints joint)
+
     before : c + lens_of mid c ≤ until
     before = joint-behind (lens_of mid) (cells_in mid.cells) c until was.shaped.tiled some lt (joint-later old mid until was.same was.joints joint)
+
     right : (d : ℕ) → from ≤ d → d < c + lens_of new c → 0 < lens_of new d → IsRightAt cut t new d
     right d f l h = elim (cases_lt d c) [
       | inl less ↦
@@ -99,13 +104,15 @@ settle-step cut t from until c old mid new was low lt within joint some is = rec
           let e = at.lens in
           right-same cut t mid new d is.same at (was.right d f less (omega arith))
       | inr ge ↦ elim (cases_eq d c) [
-          | inl e ↦ subst (IsRightAt cut t new) (sym e) is.right
-          | inr ne ↦ let n = none-inside (lens_of new) (cells_in new.cells) c d is.shaped.tiled is.piece (omega arith) l in absurd (omega arith)
-        ]
+        | inl e ↦ subst (IsRightAt cut t new) (sym e) is.right
+        | inr ne ↦ let n = none-inside (lens_of new) (cells_in new.cells) c d is.shaped.tiled is.piece (omega arith) l in absurd (omega arith)
+      ]
     ]
+
     later : (d : ℕ) → (d < from) ⊎ (until ≤ d) → (d < c) ⊎ (c + lens_of mid c ≤ d)
     later d (inl less) = inl (omega arith)
     later d (inr more) = let b = before in inr (omega arith)
+
     others : (d : ℕ) → (d < from) ⊎ (until ≤ d) → IsSameAt old new d
     others d out = same-both old mid new d (was.others d out) (is.others d (later d out))
 

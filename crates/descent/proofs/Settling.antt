@@ -159,6 +159,7 @@ said-right cut t k new c n e ws same lt size said still readers count here =
   where
     lens : lens_of new c ≡ lens_of k c
     lens = ap (λ (v : _). get_or v.items c 0) same.lens
+
     wide : n ≡ offset_of k.cells (c + lens_of new c) - offset_of k.cells c
     wide = size ∙ ap (λ m. offset_of k.cells (c + m) - offset_of k.cells c) (sym lens)
 

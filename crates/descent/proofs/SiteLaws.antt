@@ -9,7 +9,7 @@ use Rattle.std.proofs.lemmas.List.Sums.{sum_by-append, sum_by-cons}
 use Rattle.semantics.specs.Admission.{SumTerm}
 use Rattle.bounds.specs.Cut.{charge_by, entry_error, error_by}
 use Rattle.bounds.specs.Segments.{TouchFrom}
-use Rattle.descent.specs.declared.choosing.Charged.{Charged}
+use Rattle.descent.specs.Choice.{Charged}
 use Rattle.descent.specs.Charges.{place_in, site, sites, sites_from, GoUp, Site}
 use Rattle.descent.specs.Choice.{charge, charged_in, charged_row, charged_rows, heavier, heaviest, Has}
 use Rattle.descent.specs.KeptSums.{band_of, place_of}

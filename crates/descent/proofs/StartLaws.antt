@@ -81,8 +81,8 @@ times-none false l m e = refl
 
 charge-none : (k : KeptSum) (i : ℕ) (g : Seg) → NoWeights k → charge_in k i g ≡ 0
 charge-none k i g none = ap (λ s. s % 2 ^ 128) (sum-none (part_of k i g) (length k.readers.items) (λ o.
-  times-none ((reader_at k.readers.items o).track == i) g.l (most_below (kept_in (offset_of k.cells) (number (numbers_at k.weights.items o)) (reader_at k.readers.items o).at g) (cells_in k.cells))
-  (most-none (kept_in (offset_of k.cells) (number (numbers_at k.weights.items o)) (reader_at k.readers.items o).at g) (cells_in k.cells)
+    times-none ((reader_at k.readers.items o).track == i) g.l (most_below (kept_in (offset_of k.cells) (number (numbers_at k.weights.items o)) (reader_at k.readers.items o).at g) (cells_in k.cells))
+    (most-none (kept_in (offset_of k.cells) (number (numbers_at k.weights.items o)) (reader_at k.readers.items o).at g) (cells_in k.cells)
     (λ c lt. none-in (covers g ((reader_at k.readers.items o).at +ℤ pos (offset_of k.cells c))) (number (numbers_at k.weights.items o) c) (none o c)))))
 
 row-none : (k : KeptSum) (i : ℕ) (row : Row) → NoWeights k → row_charge k i row ≡ 0

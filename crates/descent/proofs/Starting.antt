@@ -31,6 +31,6 @@ few-positions cut t l n rs sound are some = elim (cases_lt 0 n) [
 
 pub built : (cut : Cut) (s : SumTerm) (kept new : KeptSum) (cells : ℕ) → IsSettled cut s.series 0 cells kept new → IsOfSum cut s kept → cells ≡ cells_in kept.cells → IsKeptSum cut s new
 built cut s kept new cells is of all = kept-of-shape cut s new is.shaped (record { first = is.same.first ∙ of.first; count = ap (λ (g : Cells). g.count) is.same.cells ∙ of.count }) (λ c some.
-  let w = (is.shaped.tiled.each c some).within in
-  let e : cells_in new.cells ≡ cells_in kept.cells = ap cells_in is.same.cells in
-  is.right c (omega arith) (omega arith) some)
+    let w = (is.shaped.tiled.each c some).within in
+    let e : cells_in new.cells ≡ cells_in kept.cells = ap cells_in is.same.cells in
+    is.right c (omega arith) (omega arith) some)

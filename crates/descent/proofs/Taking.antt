@@ -119,20 +119,20 @@ joint-last : (k : KeptSum) (cut : Cut) (t : Term) (p from until : ℕ) (row : Ro
 joint-last k cut t p from until row cells tiled right below there is lt = elim (cases_lt 0 (lens_of k until)) [
   | inl some ↦ inr some
   | inr none ↦ elim (cases_lt until (cells_in k.cells)) [
-      | inr ge ↦ let w = is.within in inl (omega arith)
-      | inl inner ↦
-          let over = piece-over (lens_of k) (cells_in k.cells) until tiled inner in
-          let low = over.low in
-          let high = over.high in
-          let some = over.some in
-          let before : over.c < until = elim (cases_eq over.c until) [ inl e ↦ let z = ap (lens_of k) e in absurd (omega arith) | inr ne ↦ omega arith ] in
-          let first = joint-first k cut t p from until row cells tiled right below there is lt in
-          let behind : from ≤ over.c = elim (cases_lt over.c from) [ inl less ↦ let n = none-inside (lens_of k) (cells_in k.cells) over.c from tiled some less (omega arith) in absurd (omega arith) | inr ge ↦ ge ] in
-          let s = same-side k cut t p over.c until row cells tiled below there some before high (right over.c some) in
-          let bad : false ≡ true = sym (is.behind until (omega arith) inner) ∙ s ∙ is.inside over.c behind before in
-          let n : ⊥ = cc in
-          absurd n
-    ]
+    | inr ge ↦ let w = is.within in inl (omega arith)
+    | inl inner ↦
+        let over = piece-over (lens_of k) (cells_in k.cells) until tiled inner in
+        let low = over.low in
+        let high = over.high in
+        let some = over.some in
+        let before : over.c < until = elim (cases_eq over.c until) [ inl e ↦ let z = ap (lens_of k) e in absurd (omega arith) | inr ne ↦ omega arith ] in
+        let first = joint-first k cut t p from until row cells tiled right below there is lt in
+        let behind : from ≤ over.c = elim (cases_lt over.c from) [ inl less ↦ let n = none-inside (lens_of k) (cells_in k.cells) over.c from tiled some less (omega arith) in absurd (omega arith) | inr ge ↦ ge ] in
+        let s = same-side k cut t p over.c until row cells tiled below there some before high (right over.c some) in
+        let bad : false ≡ true = sym (is.behind until (omega arith) inner) ∙ s ∙ is.inside over.c behind before in
+        let n : ⊥ = cc in
+        absurd n
+  ]
 ]
 
 pub joints-for : (k : KeptSum) (cut : Cut) (t : Term) (p : ℕ) (row : Row) → AreCells k.cells → AreTiled (lens_of k) (cells_in k.cells) → ((c : ℕ) → 0 < lens_of k c → IsRightAt cut t k c)
@@ -150,6 +150,7 @@ joints-stay old new p s same joints are = record {
   where
     back : (from until : ℕ) → AreReadIn new.cells (reader_at new.readers.items p).at s from until → AreReadIn old.cells (reader_at old.readers.items p).at s from until
     back from until is = rw (← same.cells, ← same.readers) is
+
     later : (u : ℕ) → IsJointOf old u → IsJointOf new u
     later u (inl end) = inl (end ∙ ap cells_in (sym same.cells))
     later u (inr some) = inr (joints u some)
@@ -191,9 +192,9 @@ taken-other now t i row o old new is ne = record {
   pieces = λ c some. elim (is.pieces c some) [
     | inr right ↦ inr right
     | inl left ↦ elim (cases_eq left.p o) [
-        | inl e ↦ absurd (ne (subst (λ q. (reader_at new.readers.items q).track ≡ i) e left.track))
-        | inr other ↦ let f = left.from in inl (record { p = left.p; from = omega arith; below = left.below; track = left.track; covered = left.covered })
-      ]
+      | inl e ↦ absurd (ne (subst (λ q. (reader_at new.readers.items q).track ≡ i) e left.track))
+      | inr other ↦ let f = left.from in inl (record { p = left.p; from = omega arith; below = left.below; track = left.track; covered = left.covered })
+    ]
   ];
 }
 
@@ -237,13 +238,14 @@ taken-step now t i row o from until old mid new was read is = record {
           | inr right ↦ inr (right-same now t mid new c is.same at right)
           | inl left ↦ inl (left-after i row o from until c mid new is.same read (omega arith) out left)
         ]
+
     pieces : (c : ℕ) → 0 < lens_of new c → IsLeftAt i row (o + 1) new c ⊎ IsRightAt now t new c
     pieces c some = elim (cases_lt c from) [
       | inl before ↦ outside c (inl before) some
       | inr low ↦ elim (cases_lt c until) [
-          | inl high ↦ inr (is.right c low high some)
-          | inr behind ↦ outside c (inr behind) some
-        ]
+        | inl high ↦ inr (is.right c low high some)
+        | inr behind ↦ outside c (inr behind) some
+      ]
     ]
 
 -- ---- the first, and the last
@@ -278,8 +280,10 @@ taken-first now t i row s old new b recharged same = subst (λ u. IsTakenTo now 
   where
     kept : IsKeptBut (IsTouched i row s old) now s new
     kept = subst (IsKeptBut (IsTouched i row s old) now s) (sym same) (taken-in i row b.before now s old new.charges b.changed b.kept b.can recharged)
+
     sums : IsSameSum old new
     sums = record { cells = ap (λ (k : KeptSum). k.cells) same; first = ap (λ (k : KeptSum). k.first) same; readers = ap (λ (k : KeptSum). k.readers) same }
+
     left : (c : ℕ) → IsTouched i row s old c → IsLeftAt i row 0 new c
     left c touched = rw same (record {
       p = touched.o;
@@ -299,7 +303,9 @@ taken-last now t i row s o old new b is done =
   where
     range : range_of b.before s ≡ range_of now s
     range = sym (same-range i row b.before now s b.changed b.can.sound)
+
     first : new.first ≡ first_of now s
     first = is.same.first ∙ b.kept.first ∙ ap (λ (r : Range). r.left) range
+
     count : new.cells.count ≡ count_of now s
     count = ap (λ (g : Cells). g.count) is.same.cells ∙ b.kept.count ∙ ap (λ (r : Range). positions_in r.left r.right) range

@@ -59,12 +59,12 @@ stays : (old new : ℕ → ℕ) (cells c len d : ℕ) → IsTrimmed old new c le
 stays old new cells c len d t some is = elim (cases_eq d c) [
   | inl e ↦ let h : new d ≡ len = ap new e ∙ t.here in omega arith
   | inr ne ↦ elim (cases_lt len (old c)) [
-      | inr ge ↦ let h : new d ≡ old d = t.others d ne (λ p q. omega arith) in omega arith
-      | inl lt ↦ elim (cases_eq d (c + len)) [
-          | inl e ↦ let h : new d ≡ old c - len = ap new e ∙ t.rest lt in omega arith
-          | inr other ↦ let h : new d ≡ old d = t.others d ne (λ p. other) in omega arith
-        ]
+    | inr ge ↦ let h : new d ≡ old d = t.others d ne (λ p q. omega arith) in omega arith
+    | inl lt ↦ elim (cases_eq d (c + len)) [
+      | inl e ↦ let h : new d ≡ old c - len = ap new e ∙ t.rest lt in omega arith
+      | inr other ↦ let h : new d ≡ old d = t.others d ne (λ p. other) in omega arith
     ]
+  ]
 ]
 
 pub trimmed-stays : (old new : ℕ → ℕ) (c len d : ℕ) → IsTrimmed old new c len → 0 < len → 0 < old d → 0 < new d
@@ -134,11 +134,11 @@ trimmed-tiled old new cells c len tiled t some le = record {
   each = λ d is. elim (cases_eq d c) [
     | inl e ↦ subst (IsPieceAt new cells) (sym e) (pieces-here old new cells c len tiled t some le)
     | inr ne ↦ elim (cases_lt len (old c)) [
-        | inr ge ↦ pieces-other old new cells c len d tiled t some le ne (λ lt. absurd (omega arith)) is
-        | inl lt ↦ elim (cases_eq d (c + len)) [
-            | inl e ↦ subst (IsPieceAt new cells) (sym e) (pieces-rest old new cells c len tiled t some lt)
-            | inr other ↦ pieces-other old new cells c len d tiled t some le ne (λ _. other) is
-          ]
+      | inr ge ↦ pieces-other old new cells c len d tiled t some le ne (λ lt. absurd (omega arith)) is
+      | inl lt ↦ elim (cases_eq d (c + len)) [
+        | inl e ↦ subst (IsPieceAt new cells) (sym e) (pieces-rest old new cells c len tiled t some lt)
+        | inr other ↦ pieces-other old new cells c len d tiled t some le ne (λ _. other) is
       ]
+    ]
   ];
 }

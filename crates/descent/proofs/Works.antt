@@ -20,7 +20,7 @@ use Rattle.error_prop.specs.QueryOver.{sums_over}
 use Rattle.descent.specs.declared.Pick.{Pick}
 use Rattle.descent.specs.Rows.{with_rows, Row, Track, Cut, units, segs_given, segs_of_row, segs_of_rows, entry_of, entries}
 use Rattle.descent.specs.Sums.{sum_in, first_of, count_of, charge_of, interval_in}
-use Rattle.descent.specs.declared.choosing.Charged.{Charged}
+use Rattle.descent.specs.Choice.{Charged}
 use Rattle.descent.specs.Choice.{Has, Line, lines_in, whole_error, weight_of, heaviest, charged_row, charged_in, charged_rows, charge, choice, pick_of, pick_if}
 use Rattle.descent.specs.Choice.{row_of as charged_by}
 use Rattle.descent.specs.Descents.{Node, Nodes, below, row_of, cut_of, is_at, expanded_row, expanded_track, expanded}

@@ -7,7 +7,6 @@ use Rattle.error_prop.specs.Queries.{lines_of}
 use Rattle.error_prop.specs.QueryOver.{sums_over}
 use Rattle.error_prop.specs.declared.query.SumLine.{SumLine}
 use Rattle.descent.specs.declared.Pick.{Pick}
-use Rattle.descent.specs.declared.choosing.Charged.{Charged}
 use Rattle.descent.specs.Rows.{Row, Track, Cut, entries}
 use Rattle.descent.specs.Sums.{charge_of, interval_in}
 
@@ -72,6 +71,12 @@ abbrev pub weight_of : Line → ℕ
 weight_of line = says_weight line.says
 
 -- ---- rows with their charges
+
+-- a row, by its series and start, and what it is charged for a sum
+pub record Charged : Type 0 where
+  pub series : ℕ
+  pub start : ℕ
+  pub charge : ℕ
 
 abbrev pub charged_row : Cut → SumTerm → Track Row → Row → Charged
 charged_row cut s track row = record {

@@ -12,7 +12,6 @@ pub mod Spelled
 pub mod Told
 pub mod Known
 pub mod Sound
-pub mod Frames
 pub mod Charging
 pub mod Spent
 pub mod Below

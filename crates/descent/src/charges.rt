@@ -51,7 +51,10 @@ impl Charges {
         requires { at < length self.old }
         ensures { self.new ≡ slice_set self.old at charge }
     {
-        self.sum = self.sum.wrapping_sub(self.tops.get(at)).wrapping_add(charge);
+        self.sum = self
+            .sum
+            .wrapping_sub(self.tops.get(at))
+            .wrapping_add(charge);
         self.tops.put(at, charge);
     }
 

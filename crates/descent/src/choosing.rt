@@ -1,51 +1,19 @@
-//! The choice of a row: the first of the sums that matter most, and in it the first of the rows that are charged most.
+//! The choice of a sum: the first of those that matter most; and the range of one.
 
-ghost use Rattle.std.specs.Prelude.{◌≡◌, ◌+◌, ◌^◌, ◌<◌, ◌≤◌, List, ℕ, length, None, IfOk, MatchOption};
+ghost use Rattle.std.specs.Prelude.{◌≡◌, ◌^◌, ◌<◌, ◌≤◌, ℕ, length, MatchOption};
 ghost use Rattle.std.specs.List.{All};
 ghost use Rattle.std.specs.Option.{option_map};
 ghost use Rattle.semantics.specs.Admission.{count_at};
-ghost use Rattle.semantics.specs.Limits.{most_names_in, query_depth, series_depth, sums_in, IsNearQuery, IsNearSeries};
-ghost use Rattle.semantics.specs.Plain.{IsPlain};
+ghost use Rattle.semantics.specs.Limits.{series_depth, IsNearSeries};
 ghost use Rattle.expr.specs.Facts.{facts_of};
-ghost use Rattle.expr.specs.Terms.{query_term_of, range_of, term_of};
+ghost use Rattle.expr.specs.Terms.{range_of, term_of};
 ghost use Rattle.segment.specs.Measure.{unit};
-ghost use Rattle.error_prop.specs.Places.{end_of_name, flat, IsShort};
-ghost use Rattle.error_prop.specs.QueryOver.{range_by, EachAdmitted};
-ghost use Rattle.descent.specs.Rows.{entries};
-ghost use Rattle.descent.specs.Held.{shown};
-ghost use Rattle.descent.specs.Choice.{charge, pick_if, says_weight};
-ghost use Rattle.descent.specs.Charging.{charged_on, charges_at, heaviest_on, later, weight_in, IsFirst, IsLight};
+ghost use Rattle.error_prop.specs.QueryOver.{range_by};
+ghost use Rattle.descent.specs.Choice.{says_weight};
+ghost use Rattle.descent.specs.Charging.{weight_in, IsFirst, IsLight};
 
-use crate::Pick;
-use crate::tables::{Table, Weighed};
-use error_prop::{Charges, Frame, SumLine, sum_interval};
-use expr::{Bounds, Fact, Query, Series, domain};
-use num_text::Memory;
-use std::alloc::Global;
-
-/// A row, by its series and start, and what it is charged for a sum.
-#[derive(Clone, Copy, Drop)]
-pub(crate) struct Charged {
-    pub(crate) series: u32,
-    pub(crate) start: u32,
-    pub(crate) charge: u128,
-}
-
-/// The first of the rows that are charged most, where one more stands behind.
-pub(crate) fn later(best: Option<Charged>, next: Charged) -> Option<Charged>
-    ensures { result ≡ later charge best next }
-{
-    match best {
-        None => { if next.charge == 0 { None } else { Some(next) } }
-        Some(first) => {
-            if next.charge <= first.charge {
-                Some(first)
-            } else {
-                Some(next)
-            }
-        }
-    }
-}
+use error_prop::SumLine;
+use expr::{Bounds, Fact, Series, domain};
 
 /// How many units of a rank make a whole.
 fn units(rank: u8) -> u128
@@ -89,20 +57,6 @@ pub(crate) fn heaviest_line(lines: &[SumLine]) -> Option<usize>
     if most == 0 { None } else { Some(at) }
 }
 
-/// How many sums a query has.
-fn count(q: &Query) -> usize
-    requires plain { IsPlain (query_term_of q.now) }
-    requires few { sums_in (query_term_of q.now) ≤ 16 }
-    ensures { result ≡ sums_in (query_term_of q.now) }
-{
-    match q {
-        Query::Number(_) => 0,
-        Query::Sum(..) => 1,
-        Query::Var(..) | Query::Cov(..) => unreachable!(),
-        Query::Add(p, q) | Query::Sub(p, q) | Query::Mul(p, q) => count(p) + count(q),
-    }
-}
-
 /// The ends of the range of a sum.
 pub(crate) fn range_of_sum(t: &Series, range: Option<Bounds>, facts: &[Fact]) -> Bounds
     requires depth { series_depth (term_of t.now) ≤ 64 }
@@ -115,60 +69,5 @@ pub(crate) fn range_of_sum(t: &Series, range: Option<Bounds>, facts: &[Fact]) ->
             let (l, r) = domain(t, facts);
             Bounds { l, r }
         }
-    }
-}
-
-/// What the segments of a frame are charged for the `k`-th sum of a query.
-pub(crate) fn charges_at(
-    alloc: Global,
-    q: &Query,
-    k: usize,
-    facts: &[Fact],
-    f: &Frame,
-) -> Result<Charges, Memory>
-    requires k { k < sums_in (query_term_of q.now) }
-    requires few { sums_in (query_term_of q.now) ≤ 16 }
-    requires plain { IsPlain (query_term_of q.now) }
-    requires depth { query_depth (query_term_of q.now) ≤ 64 }
-    requires near { IsNearQuery (query_term_of q.now) }
-    requires names { most_names_in (query_term_of q.now) ≤ 32 }
-    requires short { IsShort f.now }
-    requires lengths { (name : List ℕ) → count_at (facts_of facts.now) name ≡ end_of_name f.now name }
-    requires each { EachAdmitted f.now (query_term_of q.now) }
-    ensures { IfOk result (λ charges. charges ≡ charges_at f.now (query_term_of q.now) k) }
-{
-    match q {
-        Query::Number(_) | Query::Var(..) | Query::Cov(..) => unreachable!(),
-        Query::Sum(t, range) => {
-            let bounds = range_of_sum(t, *range, facts);
-            let s = sum_interval(alloc, t, bounds.l, bounds.r, f)?;
-            Ok(s.charges)
-        }
-        Query::Add(p, q) | Query::Sub(p, q) | Query::Mul(p, q) => {
-            let first = count(p);
-            if k < first {
-                charges_at(alloc, p, k, facts, f)
-            } else {
-                charges_at(alloc, q, k - first, facts, f)
-            }
-        }
-    }
-}
-
-/// The first of the rows that are charged most, by the charges of all segments, or none where none is charged anything.
-pub(crate) fn heaviest_row<I: Copy>(tables: &[Table<I>], charges: &[u128]) -> Option<Pick>
-    requires { length (flat (entries (shown tables.now))) ≤ length charges.now }
-    ensures { result ≡ pick_if (heaviest_on charge None (charged_on charges.now 0 (shown tables.now))) }
-{
-    let mut weighed = Weighed { at: 0, best: None };
-    for i in 0..tables.len() {
-        weighed = tables[i].weigh(charges, weighed);
-    }
-    match weighed.best {
-        None => None,
-        Some(row) => Some(Pick {
-            series: row.series,
-            start: row.start,
-        }),
     }
 }

@@ -186,7 +186,14 @@ impl<I: Copy> Cut<I> {
         ensures same { self.new ≡ self.old }
     {
         let tables = self.tables.as_slice();
-        let out = combined(self.alloc, q, tables, &self.last, &mut self.state, &mut self.kept)?;
+        let out = combined(
+            self.alloc,
+            q,
+            tables,
+            &self.last,
+            &mut self.state,
+            &mut self.kept,
+        )?;
         Ok(out)
     }
 
@@ -201,7 +208,14 @@ impl<I: Copy> Cut<I> {
         ensures same { self.new ≡ self.old }
     {
         let tables = self.tables.as_slice();
-        let out = combined(self.alloc, q, tables, &self.last, &mut self.state, &mut self.kept)?;
+        let out = combined(
+            self.alloc,
+            q,
+            tables,
+            &self.last,
+            &mut self.state,
+            &mut self.kept,
+        )?;
         let Some(k) = heaviest_line(out.sums.as_slice()) else {
             return Ok(None);
         };

@@ -58,7 +58,11 @@ fn sum_at(q: &Query, k: usize) -> (&Series, Option<Bounds>)
         Query::Sum(t, range) => (t, *range),
         Query::Add(p, q) | Query::Sub(p, q) | Query::Mul(p, q) => {
             let first = count(p);
-            if k < first { sum_at(p, k) } else { sum_at(q, k - first) }
+            if k < first {
+                sum_at(p, k)
+            } else {
+                sum_at(q, k - first)
+            }
         }
     }
 }

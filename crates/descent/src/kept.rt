@@ -274,7 +274,16 @@ impl KeptSum {
         let from = self.cells.offset(c) as u64;
         let readers = self.readers.as_slice();
         let mut weights = vec![in alloc; 0u128; readers.len()]?;
-        let estimate = say(alloc, t, self.first, tables, readers, from, len, &mut weights)?;
+        let estimate = say(
+            alloc,
+            t,
+            self.first,
+            tables,
+            readers,
+            from,
+            len,
+            &mut weights,
+        )?;
         self.estimates.put(c, estimate);
         self.put_weights(tables, c, weights.as_slice());
         Ok(())

@@ -7,22 +7,15 @@ ghost use Rattle.descent.specs.Standing.{IsClosedOver, IsEndOver, IsOpenedOver};
 ghost use Rattle.descent.specs.Held.{Held, row_in as row_held};
 ghost use Rattle.descent.specs.Told.{told_row};
 ghost use Rattle.descent.specs.Laid.{blocks, held, replaced, IsRowFrom, IsOpened, AreHalves, CanGoBack, IsRootOf, restored, root_table};
-ghost use Rattle.descent.specs.Charging.{charged_from, heaviest_on};
-ghost use Rattle.descent.specs.Choice.{charge, Has};
+ghost use Rattle.descent.specs.Choice.{Has};
 ghost use Rattle.descent.specs.Known.{fact_of};
 ghost use Rattle.expr.specs.Facts.{fact_of as fact_by};
-ghost use Rattle.descent.specs.Frames.{pushed_all};
-ghost use Rattle.descent.specs.Rows.{segs_of_row, segs_of_rows, with_rows};
+ghost use Rattle.descent.specs.Rows.{segs_of_rows, with_rows};
 ghost use Rattle.descent.specs.Sound.{AreSmall, IsSoundRow, IsSoundTrack};
-ghost use Rattle.error_prop.specs.Entries.{last_end};
 ghost use Rattle.segment.specs.Measure.{IsSane};
 
-use crate::choosing::{Charged, later};
-use crate::frames::push_units;
 use crate::rows::CutRow;
-use error_prop::Frame;
 use expr::{Fact, Name};
-use num_text::Memory;
 use segment::{Seg, unit};
 use std::alloc::{AllocError, Global};
 use std::marker::Model;
@@ -59,13 +52,6 @@ impl<I> Model for Table<I> {
     ghost view = { view_of };
 
     ghost invariant = { IsTable };
-}
-
-/// How many charges were gone over, and the first of the rows that are charged most.
-#[derive(Clone, Copy, Drop)]
-pub(crate) struct Weighed {
-    pub(crate) at: usize,
-    pub(crate) best: Option<Charged>,
 }
 
 /// So many places without rows.
@@ -129,48 +115,6 @@ fn give(owners: &mut Vec<u32>, from: usize, until: usize, owner: u32)
 {
     for b in from..until {
         owners[b] = owner;
-    }
-}
-
-/// The segments of a row are added to a frame: its own, or where it is opened one for each reading.
-fn put_row<I: Copy>(frame: &mut Frame, row: &Row<I>) -> Result<(), Memory>
-    requires begun { 0 < length frame.old }
-    requires start { row.now.seg.start ≡ last_end frame.old }
-    requires within { row.now.seg.start + row.now.seg.len ≤ 2 ^ 20 }
-    requires sound { (d : ℕ) × IsSoundRow d (row_held (held row.now)) }
-    ensures { OnOk result (frame.new ≡ pushed_all frame.old (segs_of_row (row_held (held row.now)))) }
-{
-    match &row.readings {
-        None => frame.push(row.seg),
-        Some(xs) => {
-            let len = row.seg.len as usize;
-            push_units(frame, row.seg.start, &xs[..len])
-        }
-    }
-}
-
-/// Goes over a row with the charges of its segments. An opened row is charged nothing.
-fn weigh_row<I: Copy>(series: u32, row: &Row<I>, charges: &[u128], from: Weighed) -> Weighed
-    requires sound { (d : ℕ) × IsSoundRow d (row_held (held row.now)) }
-    requires enough { from.at + length (segs_of_row (row_held (held row.now))) ≤ length charges.now }
-    ensures place { result.at ≡ from.at + length (segs_of_row (row_held (held row.now))) }
-    ensures best { result.best ≡ heaviest_on charge from.best (charged_from series charges.now from.at (row_held
-        (held row.now) ∷ [])) }
-{
-    if row.readings.is_some() {
-        return Weighed {
-            at: from.at + row.seg.len as usize,
-            best: from.best,
-        };
-    }
-    let next = Charged {
-        series,
-        start: row.seg.start,
-        charge: charges[from.at],
-    };
-    Weighed {
-        at: from.at + 1,
-        best: later(from.best, next),
     }
 }
 
@@ -345,22 +289,6 @@ impl<I: Copy> Table<I> {
         row.seg.start + row.seg.len
     }
 
-    /// The segments of the rows are added to a frame, in order.
-    pub(crate) fn put_segs(&self, frame: &mut Frame) -> Result<(), Memory>
-        requires begun { 0 < length frame.old }
-        requires start { last_end frame.old ≡ 0 }
-        ensures segs { OnOk result (frame.new ≡ pushed_all frame.old (segs_of_rows (map row_held self.now.rows))) }
-        ensures sound { IsSoundTrack (with_rows row_held self.now) }
-    {
-        for i in 0..self.places.len() {
-            let Some(row) = row_in(&self.places, i) else {
-                continue;
-            };
-            put_row(frame, &row)?;
-        }
-        Ok(())
-    }
-
     pub(crate) fn name(&self) -> Name
         ensures { result ≡ self.now.name }
     {
@@ -375,23 +303,6 @@ impl<I: Copy> Table<I> {
             n: self.len,
             d: self.greatest,
         }
-    }
-
-    /// Goes over the rows with the charges of their segments.
-    pub(crate) fn weigh(&self, charges: &[u128], from: Weighed) -> Weighed
-        requires enough { from.at + length (segs_of_rows (map row_held self.now.rows)) ≤ length charges.now }
-        ensures place { result.at ≡ from.at + length (segs_of_rows (map row_held self.now.rows)) }
-        ensures best { result.best ≡ heaviest_on charge from.best (charged_from self.now.series charges.now from.at
-            (map row_held self.now.rows)) }
-    {
-        let mut weighed = from;
-        for i in 0..self.places.len() {
-            let Some(row) = row_in(&self.places, i) else {
-                continue;
-            };
-            weighed = weigh_row(self.series, &row, charges, weighed);
-        }
-        weighed
     }
 
     /// The rows are told, in order.

@@ -25,14 +25,16 @@ pub take_over-requires : goal.take_over-requires
 take_over-requires g c =
     let q = query_term_of c.args.q.now in
     let inv = c.loop-k.invariant in
-    let s : SumTerm = record { series = term_of c.sum_at.result.0.now; range = option_map range_of c.sum_at.result.1 } in
-    (s, record {
-      before = inv.0;
-      changed = inv.1;
-      can = can-at (shown c.args.tables.now) c.loop-k.k s (sums_of q) c.sum_at.ensures c.requires.can;
-      series = refl;
-      kept = taken-at c.loop-k.k inv.0 (shown c.args.tables.now) s (sums_of q) c.loop-k.kept.items c.index_mut-sum.result.now c.sum_at.ensures inv.2 c.index_mut-sum.ensures.value;
-    })
+    let s : SumTerm = record { series = term_of c.sum_at.result.0.now; range = option_map range_of c.sum_at.result.1 } in (
+      s,
+      record {
+        before = inv.0;
+        changed = inv.1;
+        can = can-at (shown c.args.tables.now) c.loop-k.k s (sums_of q) c.sum_at.ensures c.requires.can;
+        series = refl;
+        kept = taken-at c.loop-k.k inv.0 (shown c.args.tables.now) s (sums_of q) c.loop-k.kept.items c.index_mut-sum.result.now c.sum_at.ensures inv.2 c.index_mut-sum.ensures.value;
+      },
+    )
 
 pub loop-k-preserved : goal.loop-k-preserved
 loop-k-preserved g c =

@@ -99,7 +99,7 @@ returns-clause-choice g c =
     let can = subst (λ (us : List (Track (Held g.row.I.Denot))). CanKeepAll (shown us) (sums_of q)) c.as_slice-tables.ensures.value c.in_ok-out.ensures.can in
     chosen (shown ts) q c.as_slice.result.now c.in-Some.k c.heaviest-row.result c.requires.plain sums c.in-Some.ensures
     (λ s at. subst (λ (us : List (Track (Held g.row.I.Denot))). CanKeep (shown us) s → IsKeptSum (shown us) s c.index-sum.result.now → c.heaviest-row.result ≡ pick_if (heaviest charge (charged_rows (shown us) s)))
-        c.as_slice-2.ensures.value (c.heaviest-row.ensures s) (can-at (shown ts) c.in-Some.k s (sums_of q) at can) (kept-at (shown ts) c.in-Some.k s (sums_of q) c.combined.new.kept.items c.index-sum.result.now at kept c.index-sum.ensures))
+    c.as_slice-2.ensures.value (c.heaviest-row.ensures s) (can-at (shown ts) c.in-Some.k s (sums_of q) at can) (kept-at (shown ts) c.in-Some.k s (sums_of q) c.combined.new.kept.items c.index-sum.result.now at kept c.index-sum.ensures))
     ∙ ap (λ (v : CutView g.row.I.Denot). choice q (shown v.tracks)) c.self.view_is
 
 pub returns-clause-closed : goal.returns-clause-closed

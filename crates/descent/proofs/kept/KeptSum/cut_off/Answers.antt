@@ -21,10 +21,13 @@ stretch-len-requires g c =
     let u : c.offset-until.result ≡ offset_of k.cells (at + lens_of k at) = c.offset-until.ensures ∙ ap (λ m. offset_of k.cells (at + m)) (sym e) in
     let low = lies.low in
     let high = lies.high in
-    let read : AreRead cut say.sum c.requires.say.0 k.first k.readers.items (offset_of k.cells at) (c.offset-until.result - offset_of k.cells at) = are-read cut c.requires.say.0 k at (c.offset-until.result - offset_of k.cells at) say shaped c.requires.piece (omega arith) (omega arith) in
-    (say.sum, c.requires.say.0, k.first,
+    let read : AreRead cut say.sum c.requires.say.0 k.first k.readers.items (offset_of k.cells at) (c.offset-until.result - offset_of k.cells at) = are-read cut c.requires.say.0 k at (c.offset-until.result - offset_of k.cells at) say shaped c.requires.piece (omega arith) (omega arith) in (
+      say.sum,
+      c.requires.say.0,
+      k.first,
       subst (λ (rs : List Reader). AreRead cut say.sum c.requires.say.0 k.first rs c.offset-from.result (c.offset-until.result - c.offset-from.result)) (sym c.as_slice.ensures.value)
-      (subst (λ f. AreRead cut say.sum c.requires.say.0 k.first k.readers.items f (c.offset-until.result - f)) (sym c.offset-from.ensures) read))
+          (subst (λ f. AreRead cut say.sum c.requires.say.0 k.first k.readers.items f (c.offset-until.result - f)) (sym c.offset-from.ensures) read),
+    )
 
 pub cell_at-next-requires-clause-aligned : goal.cell_at-next-requires-clause-aligned
 cell_at-next-requires-clause-aligned g c =

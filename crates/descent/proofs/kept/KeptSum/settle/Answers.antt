@@ -17,7 +17,7 @@ loop-c-preserved g c =
     let is = c.in_ok-settle_at.ensures in
     let some = c.loop-c.invariant.begins c.loop-c-test.true in
     let next = settle-step cut t c.args.from c.args.until at c.args.self.now c.loop-c.self new c.loop-c.invariant.settled c.loop-c.invariant.low c.loop-c-test.true c.requires.within (c.requires.ends (omega (arith, c.loop-c.invariant.low, c.loop-c-test.true))) some
-        (record { shaped = is.shaped; piece = is.piece; right = is.right; others = is.others; same = is.same }) in
+    (record { shaped = is.shaped; piece = is.piece; right = is.right; others = is.others; same = is.same }) in
     let lies = piece-in cut t new at is.shaped is.piece in
     let e : lens_of new at ≡ c.index.result.now = get_or_default new.lens.items at 0 c.index.result.now lies.listed ∙ sym c.index.ensures in
     let there : IsNext cut t c.args.from c.args.until (at + c.index.result.now) c.args.self.now new = subst (λ m. IsNext cut t c.args.from c.args.until (at + m) c.args.self.now new) e next in

@@ -24,11 +24,12 @@ say-requires-clause-read g c =
     let t = term_of c.args.t.now in
     let e = c.cut_off-len.ensures in
     let is = is-cut-off cut t c.args.self.now k c.args.c c.cut_off-len.result c.requires.say c.requires.shaped c.requires.piece e.trimmed e.count e.some e.length e.same in
-    let f : SFits w64 k.first = search rules in
-    (is.say.sum,
+    let f : SFits w64 k.first = search rules in (
+      is.say.sum,
       subst (λ (l : ℤ). AreRead cut is.say.sum t l c.as_slice-readers.result.now c.offset-from.result c.cut_off-len.result) (sym (to_z-of_z w64 k.first f))
-      (subst (λ (rs : List Reader). AreRead cut is.say.sum t k.first rs c.offset-from.result c.cut_off-len.result) (sym c.as_slice-readers.ensures.value)
-        (subst (λ from. AreRead cut is.say.sum t k.first k.readers.items from c.cut_off-len.result) (sym c.offset-from.ensures) (cut-read cut t c.args.self.now k c.args.c c.cut_off-len.result is))))
+          (subst (λ (rs : List Reader). AreRead cut is.say.sum t k.first rs c.offset-from.result c.cut_off-len.result) (sym c.as_slice-readers.ensures.value)
+          (subst (λ from. AreRead cut is.say.sum t k.first k.readers.items from c.cut_off-len.result) (sym c.offset-from.ensures) (cut-read cut t c.args.self.now k c.args.c c.cut_off-len.result is))),
+    )
 
 pub say-requires-clause-still : goal.say-requires-clause-still
 say-requires-clause-still g c =

@@ -16,6 +16,8 @@ use std::process::ExitCode;
 #[cfg(test)]
 mod gen_tests;
 #[cfg(test)]
+mod hostile_tests;
+#[cfg(test)]
 mod query_tests;
 #[cfg(test)]
 mod store_tests;

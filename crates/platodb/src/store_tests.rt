@@ -110,13 +110,42 @@ fn loads_at_most_sixteen(rt: HostRuntime) -> Result<(), Fail> {
         &[
             ("load s x26 a.csv v", "series too many\n", 10),
             ("load s x25 a.csv v", "series exists x25\n", 10),
+            ("gen s x26 1 0", "series too many\n", 10),
+            ("gen s x25 1 0", "series exists x25\n", 10),
             ("check s", "ok 16 16\n", 0),
         ],
     )
 }
 
+// Behind a series of the greatest length there is room for no reading, and none is no reading too many.
+#[test]
+fn appends_up_to_the_limit(rt: HostRuntime) -> Result<(), Fail> {
+    let alloc = rt.alloc();
+    let mut column = b"v\n".to_vec(alloc)?;
+    for _ in 0..1_048_576u32 {
+        column.extend_from_slice(b"1\n")?;
+    }
+    let files = [
+        ("a.csv", column.as_slice()),
+        ("one.csv", b"v\n1\n".as_slice()),
+        ("none.csv", b"v\n".as_slice()),
+    ];
+    let mut shelf = shelf_with(alloc, &files, &[], &[])?;
+    says(
+        &rt,
+        alloc,
+        &mut shelf,
+        &[
+            ("new s 0 0", "new\n", 0),
+            ("load s x a.csv v", "loaded x 1048576\n", 0),
+            ("append s x one.csv v", "series too long x\n", 10),
+            ("append s x none.csv v", "appended x 0 1048576\n", 0),
+        ],
+    )
+}
+
 // The bytes of the store of scale 0 and degree 0 with the one series `x`, 0 and 10 in turn.
-fn turns(rt: &impl Abort, alloc: Global) -> Result<Vec<u8>, Fail> {
+pub(crate) fn turns(rt: &impl Abort, alloc: Global) -> Result<Vec<u8>, Fail> {
     let mut shelf = shelf_with(alloc, &[("a.csv", ALTERNATING)], &[], &[])?;
     says(
         rt,

@@ -1,0 +1,3 @@
+pub mod Certificate
+pub mod Json
+pub mod Written

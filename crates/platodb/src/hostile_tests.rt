@@ -272,6 +272,13 @@ fn damaged_roots(rt: HostRuntime) -> Result<(), Fail> {
     let bytes = turns(&rt, alloc)?;
     let exact = patched(alloc, &bytes, 38, &[0; 16])?;
     is_judged(&rt, alloc, &exact, "store bad node x 0 32\n", 9)?;
+    let mut shelf = shelf_with(alloc, &[("s", exact.as_slice())], &[], &[])?;
+    says(
+        &rt,
+        alloc,
+        &mut shelf,
+        &[("query s 0 sum(x)", "160 160 0 1 0\n", 0)],
+    )?;
     // The curve's level is 5 * 2 ^ 14 + 1, so the ends cross.
     let crossed = patched(alloc, &exact, 21, &[1])?;
     // 10 ^ 9 + 1.

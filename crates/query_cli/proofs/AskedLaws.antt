@@ -9,6 +9,7 @@ use Rattle.descent.specs.declared.descents.Answer.{Answer}
 use Rattle.descent.specs.declared.rows.CutRow.{CutRow}
 use Rattle.descent.proofs.Values.{each_cut_holds_the_value}
 use Rattle.interval.specs.Interval.{Has, Interval}
+use Rattle.segment.specs.Nodes.{IsForest}
 use Rattle.semantics.specs.Admission.{NotAdmitted, high_rank, outside, refusal_of, too_great, unknown}
 use Rattle.semantics.specs.Plain.{IsPlain, plain}
 use Rattle.semantics.specs.Term.{QueryTerm}
@@ -17,22 +18,19 @@ use Rattle.semantics.proofs.PlainLaws.{query_value-plain}
 use Rattle.store_file.specs.Added.{names_in}
 use Rattle.store_file.specs.Facts.{facts_in}
 use Rattle.store_file.specs.StoreValue.{StoreValue}
-use Rattle.store_file.specs.Stored.{IsSound, StoreParts, store_value}
 use Rattle.query_cli.specs.Asked.{Asked, IsAnswered, admitted_in, answer_line, cut_line, forest_of, readings_in, roots_in}
 use Rattle.query_cli.specs.Refusals.{Refusal, domain, query_rank, query_refusal, query_unknown, range}
 use Rattle.query_cli.specs.Steps.{unless_refused}
 use Rattle.query_cli.specs.Stops.{HasCause, IfRefused, IsNotAdmitted, IsStepRefusal}
 use Rattle.query_cli.specs.declared.stop.Stop.{Stop}
 use Rattle.query_cli.proofs.StepLaws.{refused-map}
-use Rattle.query_cli.proofs.StoreNodes.{store_forest}
 
 -- ---- the interval holds the value
 
-pub holds : (q : QueryTerm) (s : StoreParts) (budget : ℕ) (a : Answer) → IsSound s → IsPlain q → Tells q (roots_in q (store_value s)) budget a
-    → Has a.iv (query_value (readings_in (store_value s)) q)
-holds q s budget a sound is_plain tells =
-    let m : StoreValue = store_value s in
-    let cut = each_cut_holds_the_value _ (forest_of m) (names_in m) q tells.is_last.steps (store_forest s sound) is_plain in
+pub holds : (q : QueryTerm) (m : StoreValue) (lengths : List ℕ) (budget : ℕ) (a : Answer) → IsForest lengths (forest_of m) → IsPlain q → Tells q (roots_in q m) budget a
+    → Has a.iv (query_value (readings_in m) q)
+holds q m lengths budget a forest is_plain tells =
+    let cut = each_cut_holds_the_value lengths (forest_of m) (names_in m) q tells.is_last.steps forest is_plain in
     let there : Some a.iv ≡ interval_in (cut_of (after q (roots_in q m) tells.is_last.steps)) q = tells.interval ∙ ap (λ n. interval_in (cut_of n) q) tells.is_last.reached in
     subst (λ o. IsSomeAnd o (λ iv. Has iv (query_value (readings_in m) q))) (sym there) cut
 
@@ -58,7 +56,7 @@ answered q m budget a text none tells has line =
 
 -- ---- a query that is not admitted
 
-caused : (e : NotAdmitted) → HasCause (query_refusal e)
+pub caused : (e : NotAdmitted) → HasCause (query_refusal e)
 caused (unknown name) = record { csv = λ e. cc; store = λ e. cc; query = λ e. cc }
 caused (high_rank k) = record { csv = λ e. cc; store = λ e. cc; query = λ e. cc }
 caused (outside k lo hi) = record { csv = λ e. cc; store = λ e. cc; query = λ e. cc }

@@ -3,6 +3,8 @@ pub mod AskedLaws
 pub mod CommandLaws
 pub mod EmptyLaws
 pub mod GeneratedLaws
+pub mod PartFacts
+pub mod PartLaws
 pub mod ReplayLaws
 pub mod RunLaws
 pub mod StepLaws

@@ -3,9 +3,10 @@ use Rattle.std.proofs.Common.{◌≡◌, ℕ, List, Option, Some, None, true, re
 use Rattle.std.specs.Prelude.{◌⊎◌, ◌++◌}
 use Rattle.std.specs.declared.alloc.Global.{Global}
 use Rattle.semantics.specs.Files.{Files, IfTold}
-use Rattle.query_cli.specs.Commands.{Answers, Command, is_reader, is_writer, refusal_of}
+use Rattle.query_cli.specs.Commands.{Answers, Command, once, new_store, load, append, check, query, gen, is_reader, is_writer, refusal_of}
+use Rattle.query_cli.specs.Reading.{Shown, reading_with}
 use Rattle.query_cli.specs.Refusals.{Refusal, absent, bad_csv, bad_query, bad_store, called_for, domain, query_rank, query_unknown, range, series_fault, status_of, store_fault, too_big, usage}
-use Rattle.query_cli.specs.Run.{Accepts, Hides, IsCounted, IsDone, IsKeptOrReplayed, IsRefusal, IsRefused, IsStatus, IsText, Replies, refusal_in}
+use Rattle.query_cli.specs.Run.{Accepts, Hides, IsCounted, IsDone, IsKeptOrReplayed, IsRefusal, IsRefused, IsStatus, IsText, IsUnrefused, Replies}
 use Rattle.query_cli.specs.Stops.{IfRefused, fault_line, fault_status}
 use Rattle.query_cli.specs.declared.stop.Fault.{Fault}
 use Rattle.query_cli.specs.declared.stop.Fault.TheVariants as fault
@@ -13,6 +14,7 @@ use Rattle.query_cli.specs.declared.stop.Reply.{Reply}
 use Rattle.query_cli.specs.declared.stop.Stop.TheVariants as stop
 use Rattle.query_cli.specs.declared.status.Status.{Status}
 use Rattle.query_cli.specs.declared.status.Status.TheVariants as status
+use Rattle.query_cli.proofs.CommandLaws.Query.{query_still}
 use Rattle.query_cli.proofs.StepLaws.{kept-files}
 use Rattle.query_cli.proofs.UsageLaws.{usage_only}
 
@@ -56,14 +58,18 @@ refusal_text files command (range node) text h = h
 done_status : (old now : Option Files) (command : Option Command) (text : List ℕ) → IsDone old now command text → IfTold old (λ m. IsStatus m command status.Ok)
 done_status None now command text done = tt
 done_status (Some m) now command text done =
-    let none : refusal_in m command ≡ None = subst (λ k. refusal_of k command ≡ None) done.answer.read done.answer.accepted in
-    inl (sym (ap called_for none))
+    inl (done.answer.reading.shown, sym (ap called_for (subst (λ k. refusal_of k command ≡ None) done.answer.read done.answer.accepted)))
+
+told_unrefused : (old : Option Files) (command : Option Command) (s : Status) → IsUnrefused s → IfTold old (λ m. Accepts m command → IsUnrefused s)
+told_unrefused None command s is = tt
+told_unrefused (Some m) command s is = λ accepts. is
 
 pub replies_done : (old now : Option Files) (command : Option Command) (text : String Global) → IsDone old now command (string_bytes text)
     → Replies old now command (record { status = status.Ok; text = text })
 replies_done old now command text done =
     record {
       exact = done_status old now command (string_bytes text) done;
+      complete = told_unrefused old command status.Ok (inl refl);
       text = done.answer;
       files = record { done = λ e. done.files; kept = λ isnt. absurd (isnt refl) };
       replayed = done.replayed;
@@ -77,13 +83,31 @@ no_command_done old now command text s done none = absurd (subst (λ k. Answers 
 refused_status : (old : Option Files) (command : Option Command) (r : Refusal) (s : Status) → s ≡ status_of r → IsRefused old command r → IfTold old (λ m. IsStatus m command s)
 refused_status None command r s is k = tt
 refused_status (Some m) command r s is k =
-    let called : refusal_in m command ≡ Some r = subst (λ x. refusal_of x command ≡ Some r) k.read k.called in
-    inl (is ∙ sym (ap called_for called))
+    inl (k.reading.shown, is ∙ sym (ap called_for (subst (λ x. refusal_of x command ≡ Some r) k.read k.called)))
+
+-- parts that stand for no store refuse nothing that is accepted
+accepted_still : (m : Files) (shown : Shown) (command : Option Command) → Accepts m command → refusal_of (reading_with m shown) command ≡ None
+accepted_still m shown None h = h
+accepted_still m shown (Some (once c)) h = h
+accepted_still m shown (Some (new_store c)) h = h
+accepted_still m shown (Some (load c)) h = h
+accepted_still m shown (Some (append c)) h = h
+accepted_still m shown (Some (check c)) h = h
+accepted_still m shown (Some (query c)) h = query_still m shown c h
+accepted_still m shown (Some (gen c)) h = h
+
+unrefused : (old : Option Files) (command : Option Command) (r : Refusal) (s : Status) → IsRefused old command r → IfTold old (λ m. Accepts m command → IsUnrefused s)
+unrefused None command r s k = tt
+unrefused (Some m) command r s k = λ accepts.
+    let called : refusal_of (reading_with m k.reading.shown) command ≡ Some r = subst (λ x. refusal_of x command ≡ Some r) k.read k.called in
+    let none = accepted_still m k.reading.shown command accepts in
+    cc
 
 pub replies_refusal : (old now : Option Files) (command : Option Command) (given : Reply) → IfRefused (stop.Refused given) (IsRefused old command) → now ≡ old → Replies old now command given
 replies_refusal old now command given (r, refused, reply) same =
     record {
       exact = refused_status old command r given.status reply.status refused;
+      complete = unrefused old command r given.status refused;
       text =
           subst (λ s. IsText old command s (string_bytes given.text)) (sym reply.status)
           (refusal_text old command r (string_bytes given.text) (record { refusal = r; refused = refused; status_is = refl; line = reply.text }));
@@ -129,11 +153,16 @@ fault_isnt : (f : Fault) → fault_status f ≡ status.Ok → ⊥
 fault_isnt fault.Reading e = cc
 fault_isnt fault.Replacing e = cc
 
+fault_unrefused : (f : Fault) → IsUnrefused (fault_status f)
+fault_unrefused fault.Reading = inr (inl refl)
+fault_unrefused fault.Replacing = inr (inr refl)
+
 pub replies_fault : (old now : Option Files) (command : Option Command) (f : Fault) (given : Reply) → given.status ≡ fault_status f → string_bytes given.text ≡ fault_line f
     → IsMet old command f → now ≡ old → Replies old now command given
 replies_fault old now command f given is line met same =
     record {
       exact = subst (λ s. IfTold old (λ m. IsStatus m command s)) (sym is) (fault_exact old command f met);
+      complete = told_unrefused old command given.status (subst IsUnrefused (sym is) (fault_unrefused f));
       text = subst (λ s. IsText old command s (string_bytes given.text)) (sym is) (fault_text old command f (string_bytes given.text) line);
       files = record { done = λ e. absurd (fault_isnt f (sym is ∙ e)); kept = λ isnt. same };
       replayed = kept-files old now command same;
@@ -164,3 +193,17 @@ pub hidden : (old now : Option Files) (read replaced : Type 0) (command : Option
     → string_bytes r.text ≡ front ++ rest → Hides old now read replaced command front
 hidden old now read replaced command r front rest replies counted e =
     record { status = r.status; rest = rest; text = subst (IsText old command r.status) e replies.text; counted = counted; files = replies.files }
+
+-- ---- what is accepted
+
+-- where nothing is refused and no count of faults rose, it is Ok or want of memory
+pub completed : (old : Option Files) (command : Option Command) (s : Status) (read replaced : Type 0)
+    → IfTold old (λ m. Accepts m command → IsUnrefused s) → IsCounted read replaced s → (read → ⊥) → (replaced → ⊥)
+    → IfTold old (λ m. Accepts m command → (s ≡ status.Ok) ⊎ (s ≡ status.Memory))
+completed None command s read replaced unrefused counted none_read none_replaced = tt
+completed (Some m) command s read replaced unrefused counted none_read none_replaced = λ accepts. by (unrefused accepts)
+  where
+    by : IsUnrefused s → (s ≡ status.Ok) ⊎ (s ≡ status.Memory)
+    by (inl ok) = inl ok
+    by (inr (inl fault)) = absurd (none_read (counted.read_fault fault))
+    by (inr (inr fault)) = absurd (none_replaced (counted.replace_fault fault))

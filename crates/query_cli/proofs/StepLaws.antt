@@ -13,7 +13,7 @@ use Rattle.store_file.specs.declared.adding.SeriesErr.TheVariants as series
 use Rattle.store_file.proofs.AddedLaws.{room-is-enough}
 use Rattle.store_file.proofs.GrownLaws.{growth-has-room}
 use Rattle.query_cli.specs.Commands.{Command, refusal_of}
-use Rattle.query_cli.specs.Reading.{File, IsRead, Reading, file_at, file_within, held, missing, most_csv, most_store, oversized, reading_in}
+use Rattle.query_cli.specs.Reading.{File, IsRead, Reading, file_at, file_within, held, missing, most_csv, most_store, no_store, oversized, reading_in}
 use Rattle.query_cli.specs.Refusals.{Refusal, series_fault, usage}
 use Rattle.query_cli.specs.Run.{IsKeptOrReplayed, IsRefused}
 use Rattle.query_cli.specs.Shelf.{RoseAtMost}
@@ -55,7 +55,7 @@ file_at-held m most name bytes h = held-within most (file_of m name) bytes h
 
 -- those that are there, where they are told, else those that came
 abbrev pub came : Option Files → File → File → Reading
-came None csv store = record { csv = λ name. csv; store = λ name. store }
+came None csv store = record { csv = λ name. csv; store = λ name. store; shown = no_store }
 came (Some m) csv store = reading_in m
 
 pub came-read : (files : Option Files) (csv store : File) → IsRead files (came files csv store)

@@ -18,6 +18,7 @@ use Rattle.store_file.specs.Facts.{facts_in}
 use Rattle.store_file.specs.Grown.{growth_refusal}
 use Rattle.store_file.specs.Last.{last_in}
 use Rattle.store_file.specs.declared.decoding.StoreErr.{StoreErr}
+use Rattle.store_file.specs.declared.decoding.StoreErr.TheVariants as stored
 use Rattle.query_cli.specs.Asked.{admitted_in}
 use Rattle.query_cli.specs.Commands.{Command, append, check, gen, load, new_store, once, query, refusal_of}
 use Rattle.query_cli.specs.Commands.Check.{CheckCommand, checked_by}
@@ -26,11 +27,11 @@ use Rattle.query_cli.specs.Commands.Column.{Bringing, Brought, ColumnCommand, br
 use Rattle.query_cli.specs.Commands.Gen.{GenCommand, roomy_by, roomy_in}
 use Rattle.query_cli.specs.Commands.Load.{load_by, loaded_in}
 use Rattle.query_cli.specs.Commands.Once.{OnceCommand, one_series, sum_query, summed_by, summed_in}
-use Rattle.query_cli.specs.Commands.Query.{QueryCommand, asked_by, asked_in, query_in}
-use Rattle.query_cli.specs.Reading.{File, Reading, held, missing, oversized}
+use Rattle.query_cli.specs.Commands.Query.{QueryCommand, are_bytes, asked_by, asked_in, asked_of, asked_of_none, asked_over, query_in}
+use Rattle.query_cli.specs.Reading.{File, Reading, Shown, answered, held, missing, no_store, oversized, refused}
 use Rattle.query_cli.specs.Refusals.{Refusal, absent, bad_csv, bad_query, bad_store, domain, query_rank, query_refusal, query_unknown, range, series_fault, status_of, store_fault, too_big, usage}
 use Rattle.query_cli.specs.Run.{IsRefused}
-use Rattle.query_cli.specs.Steps.{and_then, bytes_of, column_in, csv_bytes, known_store_in, last_reading_in, refused_as, room_in, short_in, store_bytes, store_in, unless_refused}
+use Rattle.query_cli.specs.Steps.{and_then, bytes_of, column_in, csv_bytes, last_reading_in, refused_as, room_in, short_in, store_bytes, store_in, unless_refused}
 use Rattle.query_cli.specs.declared.status.Status.TheVariants as status
 
 -- ---- steps that never answer so
@@ -61,9 +62,21 @@ admission_isnt (admission.too_great node) h = cc
 in_admitted : (q : QueryTerm) (m : StoreValue) → admitted_in q m ≡ Err usage → ⊥
 in_admitted q m = unless {E = admission.NotAdmitted} query_refusal (record { store = m; query = q }) (admission.refusal_of (facts_in m) (plain q)) admission_isnt
 
-in_store : (q : QueryTerm) (bytes : List ℕ) → asked_in q bytes ≡ Err usage → ⊥
-in_store q bytes =
-    behind (known_store_in bytes) (λ m. admitted_in q m) (error {E = StoreErr} (λ e. store_fault) (decode_of bytes) (λ e k. cc)) (in_admitted q)
+of_none : (shown : Shown) → asked_of_none shown ≡ Err usage → ⊥
+of_none answered h = cc
+of_none no_store h = cc
+of_none (refused why) h = admission_isnt why cc
+
+of_decoded : (shown : Shown) (q : QueryTerm) (r : Result StoreValue StoreErr) → asked_of shown q r ≡ Err usage → ⊥
+of_decoded shown q (Ok m) = behind (admitted_in q m) (λ asked. Ok (Some asked)) (in_admitted q m) (λ a h. cc)
+of_decoded shown q (Err (stored.NotAStore place)) = λ h. cc
+of_decoded shown q (Err (stored.BadNode name start len)) = of_none shown
+of_decoded shown q (Err stored.Memory) = of_none shown
+
+in_bytes : (shown : Shown) (q : QueryTerm) (bytes : List ℕ) (t : Bool)
+    → (if t then asked_of shown q (decode_of bytes) else asked_of_none shown) ≡ Err usage → ⊥
+in_bytes shown q bytes true = of_decoded shown q (decode_of bytes)
+in_bytes shown q bytes false = of_none shown
 
 abbrev found_in : StoreValue → List ℤ → Result Brought Refusal
 found_in store xs = Ok (record { store = store; readings = xs })
@@ -129,8 +142,10 @@ check_isnt reading c = behind _ _ (read c.store (reading.store c.store)) (λ sto
 
 query_isnt : (reading : Reading) (c : QueryCommand) → asked_by reading c ≡ Err usage → ⊥
 query_isnt reading c =
-    behind (query_in c.text) (λ q. and_then (store_bytes reading c.store) (λ bytes. asked_in q bytes)) (error {E = ParseErr} bad_query (parsed c.text) (λ e k. cc))
-    (λ q. behind (store_bytes reading c.store) (λ bytes. asked_in q bytes) (read c.store (reading.store c.store)) (in_store q))
+    behind (query_in c.text) (λ q. asked_over reading.shown q c.store (reading.store c.store))
+    (error {E = ParseErr} bad_query (parsed c.text) (λ e k. cc))
+    (λ q. behind (store_bytes reading c.store) (λ bytes. asked_in reading.shown q bytes)
+    (read c.store (reading.store c.store)) (λ bytes. in_bytes reading.shown q bytes (are_bytes bytes)))
 
 gen_isnt : (reading : Reading) (c : GenCommand) → roomy_by reading c ≡ Err usage → ⊥
 gen_isnt reading c =

@@ -58,9 +58,12 @@ answer_line lo hi width nodes opened =
     signed_decimal lo ++ codes " " ++ signed_decimal hi ++ codes " " ++ decimal width ++ codes " "
     ++ decimal nodes ++ codes " " ++ decimal opened ++ codes "\n"
 
+abbrev pub opened_in : List CutRow → ℕ
+opened_in rows = count_by (λ row. row.opened) rows
+
 -- an interval is told with the rows of its cut: how many there are, and how many of them are opened
 abbrev pub cut_line : Interval → List CutRow → List ℕ
-cut_line iv rows = answer_line iv.lo iv.hi (width_of iv) (length rows) (count_by (λ row. row.opened) rows)
+cut_line iv rows = answer_line iv.lo iv.hi (width_of iv) (length rows) (opened_in rows)
 
 -- the line of the first cut in the descent whose interval is no wider than the budget; it holds what the query comes to
 pub record IsIntervalLine (a : Asked) (budget : ℕ) (text : List ℕ) : Type 0 where

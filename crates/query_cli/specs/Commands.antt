@@ -19,7 +19,7 @@ use Rattle.query_cli.specs.Commands.Gen.{GenAnswers, GenCommand, GenReplays, fil
 use Rattle.query_cli.specs.Commands.Load.{load_by}
 use Rattle.query_cli.specs.Commands.New.{NewCommand, files_after_new, new_line, new_of}
 use Rattle.query_cli.specs.Commands.Once.{OnceCommand, OnceAnswers, once_of, summed_by}
-use Rattle.query_cli.specs.Commands.Query.{QueryCommand, QueryAnswers, asked_by, query_of, query_reads}
+use Rattle.query_cli.specs.Commands.Query.{QueryCommand, QueryAnswers, QueryHands, asked_by, query_of, query_reads}
 use Rattle.query_cli.specs.Reading.{Reading, reading_in}
 use Rattle.query_cli.specs.Refusals.{Refusal, usage}
 use Rattle.query_cli.specs.Replay.{Stands, begins}
@@ -83,7 +83,7 @@ is_reader (Some (check c)) = true
 is_reader (Some (query c)) = query_reads c
 is_reader (Some (gen c)) = true
 
--- how many files are read: none behind the first refusal
+-- how many files are read whole: none behind the first refusal
 abbrev pub reads_of : Reading → Option Command → ℕ
 reads_of reading None = 0
 reads_of reading (Some (once c)) = 1
@@ -91,8 +91,13 @@ reads_of reading (Some (new_store c)) = 0
 reads_of reading (Some (load c)) = column_reads reading c
 reads_of reading (Some (append c)) = column_reads reading c
 reads_of reading (Some (check c)) = 1
-reads_of reading (Some (query c)) = if query_reads c then 1 else 0
+reads_of reading (Some (query c)) = 0
 reads_of reading (Some (gen c)) = 1
+
+-- how many bytes of files are handed out in parts, by the text of the answer
+abbrev pub HandsParts : Option Files → Option Command → List ℕ → Option ℕ → Option ℕ → Type 0
+HandsParts files (Some (query c)) text before now = QueryHands files c text before now
+HandsParts files command text before now = Unit {0}
 
 -- whether a file is written
 abbrev pub is_writer : Option Command → Bool

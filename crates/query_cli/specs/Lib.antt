@@ -2,6 +2,7 @@ pub mod Asked
 pub mod Commands
 pub mod Generated
 pub mod Laws
+pub mod Parted
 pub mod Reading
 pub mod Refusals
 pub mod Replay

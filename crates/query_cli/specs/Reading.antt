@@ -1,5 +1,6 @@
 -- What reading the files of a command comes to, where no call fails.
 use Rattle.std.specs.Prelude.{◌≡◌, ◌^◌, ℕ, List, length, Option, Some, None, nat_lt, if◌then◌else◌}
+use Rattle.semantics.specs.Admission.{NotAdmitted}
 use Rattle.semantics.specs.Files.{Files, file_of}
 
 -- a file as it is read: its bytes; or there is none; or it is too long
@@ -24,16 +25,27 @@ most_csv = 2 ^ 26
 abbrev pub most_store : ℕ
 most_store = 2 ^ 28
 
--- the files that are read, by their kind and name
+-- what a query meets that reads parts of a file which stands for no store: an answer, a part that is no store's, or why
+-- it is not admitted
+pub data Shown : Type 0 where
+  answered : Shown
+  no_store : Shown
+  refused : NotAdmitted → Shown
+
+-- the files that are read, by their kind and name, and what is shown by parts of one that stands for no store
 pub record Reading : Type 0 where
   pub csv : List ℕ → File
   pub store : List ℕ → File
+  pub shown : Shown
 
 -- the files as they are there
+abbrev pub reading_with : Files → Shown → Reading
+reading_with files shown = record { csv = file_at files most_csv; store = file_at files most_store; shown = shown }
+
 abbrev pub reading_in : Files → Reading
-reading_in files = record { csv = file_at files most_csv; store = file_at files most_store }
+reading_in files = reading_with files no_store
 
 -- what is read is what is there, where the shelf tells its files
 abbrev pub IsRead : Option Files → Reading → Type 0
 IsRead None reading = Unit {0}
-IsRead (Some files) reading = reading ≡ reading_in files
+IsRead (Some files) reading = reading ≡ reading_with files reading.shown

@@ -3,7 +3,7 @@ use Rattle.std.specs.Io.KnownBytes.{Appends}
 use Rattle.std.specs.Prelude.{◌≡◌, ◌≢◌, ◌⊎◌, ◌++◌, ℕ, true, List, Option, Some, None, string_bytes}
 use Rattle.semantics.specs.Files.{Files, IfTold}
 use Rattle.query_cli.specs.Commands.{Answers, Command, IsReplayed, files_after, is_reader, is_writer, refusal_of}
-use Rattle.query_cli.specs.Reading.{IsRead, Reading, reading_in}
+use Rattle.query_cli.specs.Reading.{IsRead, Reading, Shown, reading_in, reading_with}
 use Rattle.query_cli.specs.Refusals.{Refusal, called_for, line_of, status_of}
 use Rattle.query_cli.specs.Stops.{HasCause, fault_line}
 use Rattle.query_cli.specs.declared.status.Status.{Status}
@@ -19,11 +19,15 @@ refusal_in m command = refusal_of (reading_in m) command
 abbrev pub Accepts : Files → Option Command → Type 0
 Accepts m command = refusal_in m command ≡ None
 
--- the status that is called for, or one of those to which it yields: want of memory, a fault of the output, a fault of
+-- the status that is called for, whatever parts of a file show that stands for no store
+abbrev pub IsCalledFor : Files → Option Command → Status → Type 0
+IsCalledFor m command given = (shown : Shown) × (given ≡ called_for (refusal_of (reading_with m shown) command))
+
+-- it, or one of those to which it yields: want of memory, a fault of the output, a fault of
 -- reading where files are read, and a fault of replacing where one is written and nothing is refused
 abbrev pub IsStatus : Files → Option Command → Status → Type 0
 IsStatus m command given =
-    (given ≡ called_for (refusal_in m command)) ⊎ ((given ≡ status.Memory) ⊎ ((given ≡ status.OutFault)
+    IsCalledFor m command given ⊎ ((given ≡ status.Memory) ⊎ ((given ≡ status.OutFault)
     ⊎ (((given ≡ status.ReadFault) × (is_reader command ≡ true))
     ⊎ ((given ≡ status.ReplaceFault) × (is_writer command ≡ true) × Accepts m command))))
 
@@ -92,9 +96,14 @@ pub record IsDone (old now : Option Files) (command : Option Command) (text : Li
   pub files : IfTold old (λ m. now ≡ Some (files_after m command))
   pub replayed : IsKeptOrReplayed old command now
 
+-- nothing was refused
+abbrev pub IsUnrefused : Status → Type 0
+IsUnrefused s = (s ≡ status.Ok) ⊎ ((s ≡ status.ReadFault) ⊎ (s ≡ status.ReplaceFault))
+
 -- what is replied to a command
 pub record Replies (old now : Option Files) (command : Option Command) (r : Reply) : Type 0 where
   pub exact : IfTold old (λ m. IsStatus m command r.status)
+  pub complete : IfTold old (λ m. Accepts m command → IsUnrefused r.status)
   pub text : IsText old command r.status (string_bytes r.text)
   pub files : Leaves old now command r.status
   pub replayed : IsKeptOrReplayed old command now

@@ -7,7 +7,7 @@ use Rattle.store_file.specs.Grown.{growth_refusal}
 use Rattle.store_file.specs.Last.{last_in}
 use Rattle.store_file.specs.StoreValue.{StoreValue}
 use Rattle.query_cli.specs.Reading.{File, Reading, held, missing, oversized}
-use Rattle.query_cli.specs.Refusals.{Refusal, absent, too_big, bad_csv, bad_store, series_fault, store_fault}
+use Rattle.query_cli.specs.Refusals.{Refusal, absent, too_big, bad_csv, bad_store, series_fault}
 
 -- one step behind another, whose refusal comes first
 abbrev pub and_then : {A B : Type 0} → Result A Refusal → (A → Result B Refusal) → Result B Refusal
@@ -43,10 +43,6 @@ store_in bytes = refused_as bad_store (decode_of bytes)
 -- the store, where it has room for a series of this name
 abbrev pub room_in : StoreValue → List ℕ → Result StoreValue Refusal
 room_in m name = unless_refused (series_fault name) m (name_refusal m name)
-
--- the same, where no place of a fault is told
-abbrev pub known_store_in : List ℕ → Result StoreValue Refusal
-known_store_in bytes = refused_as (λ e. store_fault) (decode_of bytes)
 
 -- the last reading of a series, where there is such a series
 abbrev pub last_reading_in : StoreValue → List ℕ → Result (Option ℤ) Refusal

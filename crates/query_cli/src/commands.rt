@@ -1,7 +1,7 @@
 ghost use Rattle.std.specs.Prelude.{◌≡◌, ◌≢◌, ◌≤◌, false, true, map, option_map, string_bytes, None, Err, OnErr, IfOk, IfErr};
 ghost use Rattle.semantics.specs.Faults.{Rose};
 ghost use Rattle.semantics.specs.Files.{IfTold};
-ghost use Rattle.query_cli.specs.Commands.{command_in, is_reader, is_writer, reads_of};
+ghost use Rattle.query_cli.specs.Commands.{HandsParts, command_in, is_reader, is_writer, reads_of};
 ghost use Rattle.query_cli.specs.Reading.{reading_in};
 ghost use Rattle.query_cli.specs.Run.{Accepts, IsDone, IsRefused};
 ghost use Rattle.query_cli.specs.Shelf.{Replaces, RoseAtMost};
@@ -83,6 +83,8 @@ pub(crate) fn answer<S: Shelf>(
         → S.replace_faults shelf.new ≡ S.replace_faults shelf.old }
     ensures fetches { IfTold (S.files shelf.old) (λ m.
         RoseAtMost (reads_of (reading_in m) (command_in words.now)) (S.fetches shelf.old) (S.fetches shelf.new)) }
+    ensures handed { IfOk result (λ t. HandsParts (S.files shelf.old) (command_in words.now) (string_bytes t)
+        (S.handed shelf.old) (S.handed shelf.new)) }
 {
     match read_command(words) {
         None => Err(Halt::Stopped(refuse(alloc, &Refusal::Usage))),

@@ -4,4 +4,5 @@ pub(crate) mod answer_line;
 pub(crate) mod asked;
 pub(crate) mod column;
 pub(crate) mod files;
+pub(crate) mod parts;
 pub(crate) mod store;

@@ -1,8 +1,8 @@
-ghost use Rattle.std.specs.Prelude.{◌≡◌, ◌≢◌, ◌⊎◌, ◌≤◌, [], false, None, Some, IfOk, OnErr};
+ghost use Rattle.std.specs.Prelude.{◌≡◌, ◌≢◌, ◌⊎◌, ◌≤◌, [], false, None, Some, IfOk, OnErr, string_bytes};
 ghost use Rattle.std.specs.Io.KnownBytes.{Appends};
 ghost use Rattle.semantics.specs.Faults.{Rose};
 ghost use Rattle.semantics.specs.Files.{IfTold};
-ghost use Rattle.query_cli.specs.Commands.{command_in, files_after, is_reader, is_writer, reads_of};
+ghost use Rattle.query_cli.specs.Commands.{HandsParts, command_in, files_after, is_reader, is_writer, reads_of};
 ghost use Rattle.query_cli.specs.Reading.{reading_in};
 ghost use Rattle.query_cli.specs.Run.{Accepts, Grew, Hides, IsAnswer, IsCounted, IsKeptOrReplayed, IsStatus, IsText, Replies};
 ghost use Rattle.query_cli.specs.Shelf.{NoFault, RoseAtMost};
@@ -29,6 +29,8 @@ fn reply_to<S: Shelf>(alloc: Global, words: &[String], shelf: &mut S) -> Result<
         → S.read_faults shelf.new ≡ S.read_faults shelf.old }
     ensures writes_nothing { is_writer (command_in words.now) ≡ false
         → S.replace_faults shelf.new ≡ S.replace_faults shelf.old }
+    ensures handed { IfOk result (λ r. r.status ≡ Status.Ok → HandsParts (S.files shelf.old) (command_in words.now)
+        (string_bytes r.text) (S.handed shelf.old) (S.handed shelf.new)) }
     ensures fetches { IfTold (S.files shelf.old) (λ m.
         RoseAtMost (reads_of (reading_in m) (command_in words.now)) (S.fetches shelf.old) (S.fetches shelf.new)) }
 {
@@ -91,6 +93,9 @@ pub fn run<S: Shelf, O: Out>(alloc: Global, words: &[String], shelf: &mut S, out
         → S.read_faults shelf.new ≡ S.read_faults shelf.old }
     ensures writes_nothing { is_writer (command_in words.now) ≡ false
         → S.replace_faults shelf.new ≡ S.replace_faults shelf.old }
+    // A query reads the parts of STORE that its line tells, and no file whole.
+    ensures handed { result ≡ Status.Ok → Grew (O.written out.old) (O.written out.new)
+        (λ t. HandsParts (S.files shelf.old) (command_in words.now) t (S.handed shelf.old) (S.handed shelf.new)) }
     ensures fetches { IfTold (S.files shelf.old) (λ m.
         RoseAtMost (reads_of (reading_in m) (command_in words.now)) (S.fetches shelf.old) (S.fetches shelf.new)) }
 

@@ -1,20 +1,19 @@
-ghost use Rattle.std.specs.Prelude.{◌≡◌, ◌≤◌, false, true, length, map, option_map, string_bytes, Some, Err, Ok, IfOk, IfErr, if◌then◌else◌};
+ghost use Rattle.std.specs.Prelude.{◌≡◌, false, true, length, map, option_map, string_bytes, Some, Err, Ok, IfOk, IfErr};
 ghost use Rattle.expr.specs.Terms.{query_term_of};
 ghost use Rattle.semantics.specs.Limits.{IsWithinLimits};
-ghost use Rattle.query_cli.specs.Asked.{Asked, IsIntervalLine};
 ghost use Rattle.query_cli.specs.Commands.{query};
-ghost use Rattle.query_cli.specs.Commands.Query.{asked_in, query_in, query_of, query_reads};
-ghost use Rattle.query_cli.specs.Reading.{most_store};
+ghost use Rattle.query_cli.specs.Commands.Query.{QueryHands, query_in, query_of, query_reads};
+ghost use Rattle.query_cli.specs.Parted.{HandsOver, IsAnsweredOver, IsShown};
 ghost use Rattle.query_cli.specs.Run.{IsDone, IsRefused};
-ghost use Rattle.query_cli.specs.Shelf.{OnlyReads, RoseAtMost};
+ghost use Rattle.query_cli.specs.Shelf.{OnlyReads};
 ghost use Rattle.query_cli.specs.Stops.{IfRefused, IfStopped, IsStepRefusal};
 ghost use Rattle.query_cli.specs.Views.{command_view, query_view};
 
 use crate::commands::Command;
 use crate::refusals::Refusal;
-use crate::steps::asked::answer_over;
-use crate::steps::files::{MOST_STORE, read_file};
-use crate::steps::store::known_store;
+use crate::steps::answer_line::line_of;
+use crate::steps::asked::plain_query;
+use crate::steps::parts::{descent_over, open_store};
 use crate::stop::{Fault, Halt, Stop, refuse};
 use crate::words::{MOST_BUDGET, is_file_word, read_digits, word_at};
 use expr_parse::{ParseErr, parse};
@@ -56,12 +55,12 @@ impl<'a> Query<'a> {
         ensures reading { result ≡ Err (Halt.Faulted Fault.Reading) → query_reads (query_view self.now) ≡ true }
         ensures reads_nothing { query_reads (query_view self.now) ≡ false
             → S.read_faults shelf.new ≡ S.read_faults shelf.old }
-        ensures fetches { RoseAtMost (if query_reads (query_view self.now) then 1 else 0) (S.fetches shelf.old)
-            (S.fetches shelf.new) }
+        ensures handed { IfOk result (λ t. QueryHands (S.files shelf.old) (query_view self.now) (string_bytes t)
+            (S.handed shelf.old) (S.handed shelf.new)) }
+        ensures fetches { S.fetches shelf.new ≡ S.fetches shelf.old }
     {
         let q = read_query(alloc, self.text)?;
-        let bytes = read_file(alloc, shelf, MOST_STORE, self.store)?;
-        let line = answer_in_store(alloc, &q, self.budget, &bytes)?;
+        let line = answer_in_file(alloc, shelf, self.store, &q, self.budget)?;
         Ok(line)
     }
 }
@@ -79,20 +78,26 @@ fn read_query(alloc: Global, text: &str) -> Result<expr::Query, Stop>
     }
 }
 
-// The line of the query over the bytes of the store.
-fn answer_in_store(
+// The line of the query over a store's file, of which the parts are read that it needs.
+fn answer_in_file<S: Shelf>(
     alloc: Global,
+    shelf: &mut S,
+    file: &str,
     q: &expr::Query,
     budget: u128,
-    bytes: &[u8],
-) -> Result<String, Stop>
-    requires limits { IsWithinLimits (query_term_of q.now) }
-    requires few { length bytes.now ≤ most_store }
-    ensures ok { IfOk result (λ t. (asked : Asked) × (asked_in (query_term_of q.now) bytes.now ≡ Ok asked)
-        × IsIntervalLine asked budget (string_bytes t)) }
-    ensures refused { IfErr result (λ s. IfRefused s (IsStepRefusal (asked_in (query_term_of q.now) bytes.now))) }
+) -> Result<String, Halt>
+    requires { IsWithinLimits (query_term_of q.now) }
+    ensures ok { IfOk result (λ t.
+        IsAnsweredOver (S.files shelf.old) file.now (query_term_of q.now) budget (string_bytes t)) }
+    ensures refused { IfErr result (λ h. IfStopped h (IsShown (S.files shelf.old) file.now (query_term_of q.now))) }
+    ensures shelf { OnlyReads S.files S.read_faults S.replace_faults shelf.old shelf.new result }
+    ensures handed { IfOk result (λ t. HandsOver (S.files shelf.old) file.now (query_term_of q.now)
+        (string_bytes t) (S.handed shelf.old) (S.handed shelf.new)) }
+    ensures fetches { S.fetches shelf.new ≡ S.fetches shelf.old }
 {
-    let store = known_store(alloc, bytes)?;
-    let line = answer_over(alloc, &store, q, budget)?;
+    let mut store = open_store(alloc, shelf, file)?;
+    let plain = plain_query(alloc, q, &store.facts)?;
+    let answer = descent_over(alloc, &mut store, shelf, &plain, budget)?;
+    let line = line_of(alloc, &answer)?;
     Ok(line)
 }

@@ -8,7 +8,7 @@ ghost use Rattle.interval.specs.Interval.{Has};
 ghost use Rattle.semantics.specs.Admission.{refusal_of};
 ghost use Rattle.semantics.specs.Admitted.{IsAdmitted};
 ghost use Rattle.semantics.specs.Limits.{IsWithinLimits};
-ghost use Rattle.semantics.specs.Plain.{IsPlain};
+ghost use Rattle.semantics.specs.Plain.{IsPlain, plain};
 ghost use Rattle.semantics.specs.Value.{query_value};
 ghost use Rattle.store_file.specs.Facts.{facts_in};
 ghost use Rattle.store_file.specs.Stored.{store_value};
@@ -55,17 +55,20 @@ fn not_admitted(alloc: Global, e: &AdmitErr) -> Stop
     }
 }
 
-// Refuses a plain query that is not admitted.
-fn admitted(alloc: Global, q: &Query, facts: &[Fact]) -> Result<(), Stop>
-    requires plain { IsPlain (query_term_of q.now) }
-    requires limits { IsWithinLimits (query_term_of q.now) }
-    ensures ok { OnOk result (refusal_of (facts_of facts.now) (query_term_of q.now) ≡ None) }
-    ensures admitted { OnOk result (IsAdmitted (facts_of facts.now) (query_term_of q.now)) }
+/// The query with its statistics written out, where that is admitted by what is known of the series.
+pub(crate) fn plain_query(alloc: Global, q: &Query, facts: &[Fact]) -> Result<Query, Stop>
+    requires { IsWithinLimits (query_term_of q.now) }
+    ensures query { IfOk result (λ p. query_term_of p ≡ plain (query_term_of q.now)) }
+    ensures ok { OnOk result (refusal_of (facts_of facts.now) (plain (query_term_of q.now)) ≡ None) }
+    ensures admitted { IfOk result (λ p. IsAdmitted (facts_of facts.now) (query_term_of p)) }
+    ensures plain { IfOk result (λ p. IsPlain (query_term_of p)) }
+    ensures limits { IfOk result (λ p. IsWithinLimits (query_term_of p)) }
     ensures refused { IfErr result (λ s.
-        IfRefused s (IsNotAdmitted (refusal_of (facts_of facts.now) (query_term_of q.now)))) }
+        IfRefused s (IsNotAdmitted (refusal_of (facts_of facts.now) (plain (query_term_of q.now))))) }
 {
-    match admit(q, facts) {
-        Ok(()) => Ok(()),
+    let plain = expand(alloc, q)?;
+    match admit(&plain, facts) {
+        Ok(()) => Ok(plain),
         Err(e) => Err(not_admitted(alloc, &e)),
     }
 }
@@ -103,9 +106,8 @@ pub(crate) fn answer_over(
     ensures refused { IfErr result (λ s.
         IfRefused s (IsStepRefusal (admitted_in (query_term_of q.now) (store_value store.now)))) }
 {
-    let plain = expand(alloc, q)?;
     let facts = store.facts()?;
-    admitted(alloc, &plain, &facts)?;
+    let plain = plain_query(alloc, q, &facts)?;
     let answer = descent_over(alloc, store, &plain, budget)?;
     let line = line_of(alloc, &answer)?;
     Ok(line)

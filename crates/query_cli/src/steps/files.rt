@@ -1,7 +1,8 @@
 ghost use Rattle.std.specs.Prelude.{◌≡◌, ◌≢◌, ◌≤◌, length, Err, IfErr, IfOk, None, OnOk, Some};
 ghost use Rattle.outside.specs.Parts.{RisesBy};
 ghost use Rattle.semantics.specs.Files.{IfTold, with_file};
-ghost use Rattle.query_cli.specs.Reading.{file_at, held};
+ghost use Rattle.query_cli.specs.Parted.{IsThere};
+ghost use Rattle.query_cli.specs.Reading.{file_at, held, most_store};
 ghost use Rattle.query_cli.specs.Shelf.{OnlyReads, Replaces};
 ghost use Rattle.query_cli.specs.Stops.{IfStopped, IsUnread};
 
@@ -36,6 +37,26 @@ pub(crate) fn read_file<S: Shelf>(
         Ok(Fetched::OverLimit) => Err(Halt::Stopped(refuse(alloc, &Refusal::TooBig(name)))),
         Err(FetchErr::Failed) => Err(Halt::Faulted(Fault::Reading)),
         Err(FetchErr::Memory) => Err(Halt::Stopped(Stop::Memory)),
+    }
+}
+
+/// Tests by its length that the file of a store is there and not too big.
+pub(crate) fn find_store<S: Shelf>(alloc: Global, shelf: &mut S, name: &str) -> Result<(), Halt>
+    ensures there { OnOk result (IfTold (S.files shelf.old) (λ m. IsThere m name.now)) }
+    ensures unread { IfErr result (λ h. IfStopped h (IsUnread (S.files shelf.old) most_store name.now)) }
+    ensures shelf { OnlyReads S.files S.read_faults S.replace_faults shelf.old shelf.new result }
+    ensures handed { S.handed shelf.new ≡ S.handed shelf.old }
+    ensures fetches { S.fetches shelf.new ≡ S.fetches shelf.old }
+{
+    match shelf.size(name) {
+        Ok(Some(size)) => {
+            if size > MOST_STORE {
+                return Err(Halt::Stopped(refuse(alloc, &Refusal::TooBig(name))));
+            }
+            Ok(())
+        }
+        Ok(None) => Err(Halt::Stopped(refuse(alloc, &Refusal::Absent(name)))),
+        Err(_) => Err(Halt::Faulted(Fault::Reading)),
     }
 }
 

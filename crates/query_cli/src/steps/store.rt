@@ -1,6 +1,6 @@
 ghost use Rattle.query_cli.specs.Reading.{most_store};
 ghost use Rattle.query_cli.specs.Refusals.{series_fault};
-ghost use Rattle.query_cli.specs.Steps.{known_store_in, last_reading_in, room_in, short_in, store_in};
+ghost use Rattle.query_cli.specs.Steps.{last_reading_in, room_in, short_in, store_in};
 ghost use Rattle.query_cli.specs.Stops.{IfRefused, IsStepRefusal};
 ghost use Rattle.segment.specs.Measure.{AreReadings};
 ghost use Rattle.semantics.specs.Most.{most_readings};
@@ -38,19 +38,6 @@ pub(crate) fn store_of(alloc: Global, bytes: &[u8]) -> Result<Store, Stop>
         Ok(store) => Ok(store),
         Err(StoreErr::Memory) => Err(Stop::Memory),
         Err(e) => Err(refuse(alloc, &Refusal::BadStore(e))),
-    }
-}
-
-// The store for which bytes stand.
-pub(crate) fn known_store(alloc: Global, bytes: &[u8]) -> Result<Store, Stop>
-    requires { length bytes.now ≤ most_store }
-    ensures ok { IfOk result (λ s. known_store_in bytes.now ≡ Ok (store_value s)) }
-    ensures refused { IfErr result (λ s. IfRefused s (IsStepRefusal (known_store_in bytes.now))) }
-{
-    match decode(alloc, bytes) {
-        Ok(store) => Ok(store),
-        Err(StoreErr::Memory) => Err(Stop::Memory),
-        Err(_) => Err(refuse(alloc, &Refusal::StoreFault)),
     }
 }
 

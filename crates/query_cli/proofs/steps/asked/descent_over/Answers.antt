@@ -1,9 +1,9 @@
 use Rattle.std.proofs.Common.{◌∙◌, subst, sym}
 use Rattle.expr.specs.Terms.{query_term_of}
 use Rattle.descent.specs.Told.{Tells}
-use Rattle.store_file.specs.Stored.{IsSound}
+use Rattle.store_file.specs.Stored.{IsSound, store_value}
 use Rattle.query_cli.proofs.AskedLaws.{holds}
-use Rattle.query_cli.proofs.StoreNodes.{Handed, admitted_nodes, arena_trees, known_roots, names_apart, same_roots}
+use Rattle.query_cli.proofs.StoreNodes.{Handed, admitted_nodes, arena_trees, known_roots, names_apart, same_roots, store_forest}
 use Rattle.query_cli.proofs.steps.asked.descent_over.Goals as goal
 
 pub new-nodes-requires-clause-of_arena : goal.new-nodes-requires-clause-of_arena
@@ -39,5 +39,5 @@ returns-in-Ok-clause-holds c =
     let q = query_term_of c.args.q.now in
     let same = same_roots q _ c.args.store.now c.deref-2.result.now c.deref.result.now c.store.view_is
     (record { names_are = c.deref-2.ensures.value ∙ c.in_ok-names.ensures; trees_are = c.deref.ensures.value ∙ c.in_ok-trees.ensures }) in
-    holds q c.args.store.now c.args.budget c.in-Ok.answer (subst IsSound c.store.view_is c.store.invariant) c.requires.plain
+    holds q (store_value c.args.store.now) _ c.args.budget c.in-Ok.answer (store_forest c.args.store.now (subst IsSound c.store.view_is c.store.invariant)) c.requires.plain
     (subst (λ first. Tells q first c.args.budget c.in-Ok.answer) same (c.in-Ok.ensures.last _ c.new-nodes.ensures.means))

@@ -53,7 +53,7 @@ set output '$top/docs/budgets.svg'
 set multiplot layout 1,3
 set logscale xy
 set xlabel 'budget, as a part of full scale'
-set ylabel 'segments and opened leaves that the answer needs'
+set ylabel 'segments and opened leaves'
 set key bottom left
 set format x '10^{%T}'
 do for [name in "co2 sst mv"] {

@@ -87,4 +87,4 @@ abbrev pub Reaches : Places → ℕ → Plan → ℕ → Type 0
 Reaches nodes p (leaf start len) q = q ≡ p
 Reaches nodes p (fork start len l r) q = (q ≡ p)
     ⊎ (Reaches nodes (left_child (node_at nodes p).below) l q
-        ⊎ Reaches nodes (right_child (node_at nodes p).below) r q)
+    ⊎ Reaches nodes (right_child (node_at nodes p).below) r q)

@@ -143,6 +143,11 @@ fn appends_and_sweeps(rt: HostRuntime) -> Result<(), TreeErr> {
 
     arena.sweep(&[longer]);
     assert_eq!(rt; arena.used(), 5);
+    let longest = arena.append(longer, &[0])?;
+    assert_eq!(rt; (longest.n, arena.used()), (35, 7));
+    arena.sweep(&[longest]);
+    assert_eq!(rt; arena.used(), 5);
+
     arena.sweep(&[]);
     assert_eq!(rt; arena.used(), 0);
     Ok(())

@@ -12,3 +12,4 @@ pub mod SeriesGrammar
 pub mod Small
 pub mod Stuck
 pub mod Tokens
+pub mod WorkedLimits

@@ -5,3 +5,4 @@ pub mod Nodes
 pub mod Shape
 pub mod Steps
 pub mod Tree
+pub mod WorkedFit

@@ -1,5 +1,5 @@
 -- What a place of an arena that stands for a node has.
-use Rattle.std.proofs.Common.{◌≡◌, ℕ, ◌+◌, ◌-◌, ◌<◌, ◌≤◌, pos, unsigned_abs, List, length, take, drop, get_or, get_or-take, Option, Some, None, refl, ap, ◌∙◌, sym, subst, arith}
+use Rattle.std.proofs.Common.{◌≡◌, ℕ, zero, suc, ◌+◌, ◌-◌, ◌<◌, ◌≤◌, pos, unsigned_abs, List, [], ◌∷◌, length, take, drop, get_or, get_or-take, Option, Some, None, refl, ap, ◌∙◌, sym, subst, arith, inl, inr}
 use Rattle.std.specs.Prelude.{IfSome}
 use Rattle.std.specs.List.{All}
 use Rattle.std.proofs.lemmas.List.Elements.{All-get_or}
@@ -8,17 +8,17 @@ use Rattle.semantics.specs.Readings.{reading}
 use Rattle.segment.specs.declared.segments.Seg.{Seg}
 use Rattle.segment.specs.Measure.{IsSane, greatest_reading}
 use Rattle.segment.specs.Nodes.{Forest, Place, root_place, left_of, right_of, seg_at, readings_at, tree_in, known_root}
-use Rattle.segment.specs.Shape.{fork, plan, IsSplit}
+use Rattle.segment.specs.Shape.{Plan, fork, plan, IsSplit}
 use Rattle.segment.specs.Tree.{SegTree, readings_of, root_of, plan_of, IsPartOf}
 use Rattle.segment.proofs.PartLaws.{part_self, part_left, part_right, root-true}
 use Rattle.segment.proofs.SanityLaws.{magnitude-le, greatest_reading-part}
 use Rattle.segment.proofs.ShapeLaws.{plan-fork, split_exists}
 use Rattle.seg_tree.specs.declared.nodes.Node.{Node}
 use Rattle.seg_tree.specs.declared.arena.Tree.{Tree}
-use Rattle.seg_tree.specs.Linked.{Places, IsUsed, node_at, tree_at, kept, left_child, right_child, IsFork, IsLeaf}
+use Rattle.seg_tree.specs.Linked.{Places, IsUsed, node_at, tree_at, kept, left_child, right_child, IsFork, IsLeaf, Reaches}
 use Rattle.seg_tree.specs.Reached.{Reached, forest_of, len_of, lengths_of, roots_of, Means, Stands}
 use Rattle.seg_tree.specs.ReachedLaws.{has_tree, root_of-tree_at, stands_over}
-use Rattle.seg_tree.specs.Trees.{IsTreeAt, IsTreeOf, value_at, value_of}
+use Rattle.seg_tree.specs.Trees.{IsReached, IsTreeAt, IsTreeOf, ReachesAt, value_at, value_of}
 use Rattle.seg_tree.proofs.Extended.{IsLinked-within, fork_at, leaf_at}
 
 -- a place of the arena stands for the node at a place of the series, and this is its segment
@@ -64,9 +64,24 @@ children_stand s id p k h split =
     let whole = subst (λ t. IsPartOf t h.tree) at.content h.at.part in
     let lp : plan_of l ≡ plan p.range.start k = cc in
     let rp : plan_of r ≡ plan (p.range.start + k) (p.range.len - k) = cc in
+    let forks : Plan = fork p.range.start p.range.len (plan p.range.start k) (plan (p.range.start + k) (p.range.len - k)) in
+    let below : (q : ℕ) → Reaches s.nodes id forks q → IsReached s.nodes s.trees q =
+    λ q to. h.reached q (subst (λ x. Reaches s.nodes id x q) (sym (plan-fork p.range.start p.range.len k split)) to) in
     record {
-      left = record { trees = h.trees; tree = h.tree; found = h.found; at = record { linked = at.left; shaped = lp; part = part_left h.tree g l r whole } };
-      right = record { trees = h.trees; tree = h.tree; found = h.found; at = record { linked = at.right; shaped = rp; part = part_right h.tree g l r whole } };
+      left = record {
+        trees = h.trees;
+        tree = h.tree;
+        found = h.found;
+        at = record { linked = at.left; shaped = lp; part = part_left h.tree g l r whole };
+        reached = λ q to. below q (inr (inl to));
+      };
+      right = record {
+        trees = h.trees;
+        tree = h.tree;
+        found = h.found;
+        at = record { linked = at.right; shaped = rp; part = part_right h.tree g l r whole };
+        reached = λ q to. below q (inr (inr to));
+      };
     }
 
 -- a node of more than 16 readings has children
@@ -144,6 +159,11 @@ len-at s k = get_or-map len_of s.trees k no_tree
 tree-at : (s : Reached) (k : ℕ) → tree_in (forest_of s) k ≡ value_of s.nodes (get_or s.trees k no_tree)
 tree-at s k = get_or-map (value_of s.nodes) s.trees k no_tree
 
+reached-by : (nodes : Places) (trees : List Tree) (k q : ℕ) → k < length trees → ReachesAt nodes (get_or trees k no_tree).root (get_or trees k no_tree).n q → IsReached nodes trees q
+reached-by nodes [] k q lt to = absurd (omega (arith, lt))
+reached-by nodes (t ∷ ts) zero q lt to = inl to
+reached-by nodes (t ∷ ts) (suc k) q lt to = inr (reached-by nodes ts k q (omega (arith, lt)) to)
+
 root_stands : (s : Reached) (k place : ℕ) (t : Tree) → All (IsTreeOf s.nodes) s.trees → k < length s.trees → get_or s.trees k no_tree ≡ t → t.root ≡ Some place
     → (h : Stands s place (root_place k (get_or (lengths_of s) k 0))) × (h.tree ≡ tree_at s.nodes place (plan 0 (get_or (lengths_of s) k 0)))
 root_stands s k place t all lt e root =
@@ -157,6 +177,9 @@ root_stands s k place t all lt e root =
         tree = tree_at s.nodes place (plan 0 n);
         found = value;
         at = record { linked = at.0; shaped = at.1.shaped; part = part_self (tree_at s.nodes place (plan 0 n)) };
+        reached = λ q to. reached-by s.nodes s.trees k q lt
+            (subst (λ (u : Tree). ReachesAt s.nodes u.root u.n q) (sym e)
+            (subst (λ o. ReachesAt s.nodes o t.n q) (sym root) (subst (λ m. ReachesAt s.nodes (Some place) m q) (sym len) to)));
       },
       refl,
     )

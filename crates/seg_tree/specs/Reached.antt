@@ -8,8 +8,8 @@ use Rattle.segment.specs.Shape.{Range, plan}
 use Rattle.segment.specs.Tree.{SegTree, IsPartOf, plan_of, root_of}
 use Rattle.seg_tree.specs.declared.nodes.Node.{Node}
 use Rattle.seg_tree.specs.declared.arena.Tree.{Tree}
-use Rattle.seg_tree.specs.Linked.{Places, IsLinked, tree_at}
-use Rattle.seg_tree.specs.Trees.{IsTreeOf, value_of}
+use Rattle.seg_tree.specs.Linked.{Places, IsLinked, Reaches, tree_at}
+use Rattle.seg_tree.specs.Trees.{IsReached, IsTreeOf, value_of}
 
 -- the nodes of an arena, and the trees of the series
 pub record Reached : Type 0 where
@@ -40,9 +40,11 @@ pub record StandsIn (nodes : Places) (t : SegTree) (id : ℕ) (r : Range) : Type
   pub shaped : plan_of (tree_at nodes id (plan r.start r.len)) ≡ plan r.start r.len
   pub part : IsPartOf (tree_at nodes id (plan r.start r.len)) t
 
--- a place of the arena stands for the node at it, in each series whose tree has it
+-- a place of the arena stands for the node at it, in each series whose tree has it; the trees reach it, and all that is
+-- below it
 pub record Stands (s : Reached) (id : ℕ) (p : Place) : Type 0 where
   pub trees : All (IsTreeOf s.nodes) s.trees
   pub tree : SegTree
   pub found : tree_in (forest_of s) p.series ≡ Some tree
   pub at : StandsIn s.nodes tree id p.range
+  pub reached : (q : ℕ) → Reaches s.nodes id (plan p.range.start p.range.len) q → IsReached s.nodes s.trees q

@@ -120,9 +120,7 @@ fn replace_file<R: Files<File = File>>(
     name: &str,
     bytes: &[u8],
 ) -> Result<(), ReplaceErr> {
-    let Ok(fresh) = format!(in alloc; "{name}.new") else {
-        return Err(ReplaceErr::Memory);
-    };
+    let fresh = format!(in alloc; "{name}.new")?;
     if write_file(rt, fresh.as_str(), bytes) && fs::rename(rt, fresh.as_str(), name).is_ok() {
         Ok(())
     } else {

@@ -9,7 +9,7 @@ ghost use Rattle.outside.specs.Parts.{IsPartRead};
 
 use crate::file_bytes::Bytes;
 use crate::shelves::{FetchErr, Fetched, ReplaceErr};
-use std::alloc::Global;
+use std::alloc::{AllocError, Global};
 use std::collections::BTreeMap;
 
 /// The bytes of a file.
@@ -51,10 +51,8 @@ fn fill(into: &mut Vec<u8>, held: &[u8]) -> Result<(), FetchErr>
     ensures err { IfErr result (λ e. e ≡ FetchErr.Memory) }
 {
     into.clear();
-    match into.extend_from_slice(held) {
-        Ok(()) => Ok(()),
-        Err(_) => Err(FetchErr::Memory),
-    }
+    into.extend_from_slice(held)?;
+    Ok(())
 }
 
 /// The length of a file.
@@ -101,14 +99,10 @@ pub(crate) fn put(
     ensures stay { OnErr result (files_of files.new ≡ files_of files.old) }
     ensures err { IfErr result (λ e. e ≡ ReplaceErr.Memory) }
 {
-    let Ok(name) = String::from_str(alloc, name) else {
-        return Err(ReplaceErr::Memory);
-    };
-    let Ok(held) = Vec::from_slice(alloc, bytes) else {
-        return Err(ReplaceErr::Memory);
-    };
+    let name = String::from_str(alloc, name)?;
+    let held = Vec::from_slice(alloc, bytes)?;
     match files.insert(name, Bytes::of(held)) {
         Ok(_) => Ok(()),
-        Err(_) => Err(ReplaceErr::Memory),
+        Err(e) => Err(AllocError::from(e).into()),
     }
 }

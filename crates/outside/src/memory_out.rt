@@ -49,10 +49,8 @@ pub(crate) fn append(bytes: &mut Vec<u8>, piece: &[u8]) -> Result<(), PutErr>
     ensures none { OnErr result (bytes.new.items ≡ bytes.old.items) }
     ensures err { IfErr result (λ e. e ≡ PutErr.Memory) }
 {
-    match bytes.extend_from_slice(piece) {
-        Ok(()) => Ok(()),
-        Err(_) => Err(PutErr::Memory),
-    }
+    bytes.extend_from_slice(piece)?;
+    Ok(())
 }
 
 impl Out for MemOut {

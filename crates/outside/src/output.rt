@@ -2,13 +2,24 @@
 
 ghost use Rattle.std.specs.Prelude.{◌≡◌, ◌≤◌, ◌++◌, ℕ, List, OnOk, Option, []};
 ghost use Rattle.std.specs.Io.KnownBytes.{Appends};
+ghost use Rattle.outside.specs.declared.output.PutErr.TheVariants as put;
 ghost use Rattle.semantics.specs.Faults.{Rose};
+
+use std::alloc::AllocError;
 
 /// Why a piece was not written whole.
 #[derive(Clone, Copy, Debug, PartialEq, Eq)]
 pub enum PutErr {
     Failed,
     Memory,
+}
+
+impl From<AllocError> for PutErr {
+    ghost from_gives = { λ _ e. e ≡ put.Memory };
+
+    fn from(_e: AllocError) -> PutErr {
+        PutErr::Memory
+    }
 }
 
 pub trait Out {

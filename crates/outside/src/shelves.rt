@@ -5,7 +5,11 @@ ghost use Rattle.semantics.specs.Faults.{Rose};
 ghost use Rattle.semantics.specs.Files.{Files, IfTold, file_of, with_file};
 ghost use Rattle.std.specs.Option.{option_map};
 ghost use Rattle.outside.specs.Fetching.{IsFetched};
+ghost use Rattle.outside.specs.declared.shelves.FetchErr.TheVariants as fetch;
+ghost use Rattle.outside.specs.declared.shelves.ReplaceErr.TheVariants as replace;
 ghost use Rattle.outside.specs.Parts.{HandedBy, IsPartRead, RisesBy};
+
+use std::alloc::AllocError;
 
 /// A call of the system that failed.
 #[derive(Clone, Copy, Debug, PartialEq, Eq)]
@@ -26,11 +30,27 @@ pub enum FetchErr {
     Memory,
 }
 
+impl From<AllocError> for FetchErr {
+    ghost from_gives = { λ _ e. e ≡ fetch.Memory };
+
+    fn from(_e: AllocError) -> FetchErr {
+        FetchErr::Memory
+    }
+}
+
 /// Why a file was not written anew.
 #[derive(Clone, Copy, Debug, PartialEq, Eq)]
 pub enum ReplaceErr {
     Failed,
     Memory,
+}
+
+impl From<AllocError> for ReplaceErr {
+    ghost from_gives = { λ _ e. e ≡ replace.Memory };
+
+    fn from(_e: AllocError) -> ReplaceErr {
+        ReplaceErr::Memory
+    }
 }
 
 pub trait Shelf {

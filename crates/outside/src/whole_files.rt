@@ -56,10 +56,7 @@ fn read_more<F: Read>(file: &mut F, most: usize, into: &mut Vec<u8>) -> Result<u
     let Some(long) = start.checked_add(most) else {
         return Err(FetchErr::Memory);
     };
-    match into.resize(long, 0) {
-        Ok(()) => {}
-        Err(_) => return Err(FetchErr::Memory),
-    }
+    into.resize(long, 0)?;
     match file.read(&mut into[start..]) {
         Ok(count) => {
             into.truncate(start + count);

@@ -4,6 +4,7 @@ ghost use Rattle.segment.specs.Growth.{kept_or_fit, made};
 ghost use Rattle.segment.specs.Measure.{AreReadings};
 ghost use Rattle.segment.specs.Shape.{node_count, shape};
 ghost use Rattle.segment.specs.Tree.{SegTree, fitted_series, all_readings, all_segs};
+ghost use Rattle.seg_tree.specs.declared.arena.TreeErr.TheVariants.{Memory as no_memory};
 ghost use Rattle.seg_tree.specs.Adopted.{HaveTree, IsTreeWith};
 ghost use Rattle.seg_tree.specs.Grown.{grown_tree};
 ghost use Rattle.seg_tree.specs.Linked.{Extends, IsUsed, held_at, node_at, used};
@@ -19,7 +20,7 @@ use crate::places::Places;
 use crate::reading::{push_readings, push_segs};
 use num_text::Memory;
 use segment::Seg;
-use std::alloc::Global;
+use std::alloc::{AllocError, Global};
 use std::marker::Model;
 
 /// A tree of an arena: its root's place, where it has readings, and how many it has.
@@ -37,6 +38,22 @@ pub enum TreeErr {
     /// The arena's nodes would pass its limit.
     ArenaFull,
     Memory,
+}
+
+impl From<AllocError> for TreeErr {
+    ghost from_gives = { λ _ e. e ≡ no_memory };
+
+    fn from(_e: AllocError) -> TreeErr {
+        TreeErr::Memory
+    }
+}
+
+impl From<Memory> for TreeErr {
+    ghost from_gives = { λ _ e. e ≡ no_memory };
+
+    fn from(_e: Memory) -> TreeErr {
+        TreeErr::Memory
+    }
 }
 
 /// Nodes, of which trees are made.
@@ -106,9 +123,7 @@ impl Arena {
         if xs.is_empty() {
             return Ok(Tree { root: None, n });
         }
-        if self.nodes.reserve(nodes_for(n)).is_err() {
-            return Err(TreeErr::Memory);
-        }
+        self.nodes.reserve(nodes_for(n))?;
         Ok(add_tree(&mut self.nodes, xs, self.degree))
     }
 
@@ -152,15 +167,9 @@ impl Arena {
         let Some(root) = tree.root else {
             return self.build(xs);
         };
-        let Ok(mut all) = self.readings_of(tree) else {
-            return Err(TreeErr::Memory);
-        };
-        if all.extend_from_slice(xs).is_err() {
-            return Err(TreeErr::Memory);
-        }
-        if self.nodes.reserve(made).is_err() {
-            return Err(TreeErr::Memory);
-        }
+        let mut all = self.readings_of(tree)?;
+        all.extend_from_slice(xs)?;
+        self.nodes.reserve(made)?;
         Ok(grow_tree(&mut self.nodes, root, tree.n, &all, self.degree))
     }
 
@@ -191,9 +200,7 @@ impl Arena {
         if xs.is_empty() {
             return Ok(Tree { root: None, n });
         }
-        if self.nodes.reserve(nodes_for(n)).is_err() {
-            return Err(TreeErr::Memory);
-        }
+        self.nodes.reserve(nodes_for(n))?;
         Ok(adopt_tree(&mut self.nodes, segs, xs))
     }
 
@@ -238,13 +245,9 @@ impl Arena {
         requires { IsTreeOf self.now.nodes tree }
         ensures { IfOk result (λ xs. xs.items ≡ all_readings (value_of self.now.nodes tree)) }
     {
-        let Ok(mut xs) = Vec::with_capacity(self.alloc, tree.n as usize) else {
-            return Err(Memory);
-        };
+        let mut xs = Vec::with_capacity(self.alloc, tree.n as usize)?;
         if let Some(root) = tree.root {
-            if push_readings(&self.nodes, root, 0, tree.n, &mut xs).is_err() {
-                return Err(Memory);
-            }
+            push_readings(&self.nodes, root, 0, tree.n, &mut xs)?;
         }
         Ok(xs)
     }
@@ -256,9 +259,7 @@ impl Arena {
     {
         let mut segs = Vec::new(self.alloc);
         if let Some(root) = tree.root {
-            if push_segs(&self.nodes, root, 0, tree.n, &mut segs).is_err() {
-                return Err(Memory);
-            }
+            push_segs(&self.nodes, root, 0, tree.n, &mut segs)?;
         }
         Ok(segs)
     }

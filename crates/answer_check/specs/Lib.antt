@@ -1,3 +1,5 @@
 pub mod Certificate
 pub mod Json
+pub mod Verdict
+pub mod Worked
 pub mod Written

@@ -1,6 +1,7 @@
 pub mod Alone
 pub mod Events
 pub mod Hub
+pub mod Kept
 pub mod Replies
 pub mod Script
 pub mod Steady

@@ -57,10 +57,10 @@ answered q m budget a text none tells has line =
 -- ---- a query that is not admitted
 
 pub caused : (e : NotAdmitted) → HasCause (query_refusal e)
-caused (unknown name) = record { csv = λ e. cc; store = λ e. cc; query = λ e. cc }
-caused (high_rank k) = record { csv = λ e. cc; store = λ e. cc; query = λ e. cc }
-caused (outside k lo hi) = record { csv = λ e. cc; store = λ e. cc; query = λ e. cc }
-caused (too_great k) = record { csv = λ e. cc; store = λ e. cc; query = λ e. cc }
+caused (unknown name) = record { csv = λ e. cc; store = λ e. cc; query = λ e. cc; cert = λ e. cc }
+caused (high_rank k) = record { csv = λ e. cc; store = λ e. cc; query = λ e. cc; cert = λ e. cc }
+caused (outside k lo hi) = record { csv = λ e. cc; store = λ e. cc; query = λ e. cc; cert = λ e. cc }
+caused (too_great k) = record { csv = λ e. cc; store = λ e. cc; query = λ e. cc; cert = λ e. cc }
 
 pub not_admitted : (q : QueryTerm) (m : StoreValue) (s : Stop) → IfRefused s (IsNotAdmitted (refusal_of (facts_in m) (plain q))) → IfRefused s (IsStepRefusal (admitted_in q m))
 not_admitted q m s h =

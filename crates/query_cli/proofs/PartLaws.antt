@@ -81,7 +81,7 @@ is_bytes (x ∷ xs) h zero = ltb-true x 256 (both_true (nat_lt x 256) (are_bytes
 is_bytes (x ∷ xs) h (suc i) = is_bytes xs (both_true (nat_lt x 256) (are_bytes xs) h).1 i
 
 fault-cause : HasCause store_fault
-fault-cause = record { csv = λ e. cc; store = λ e. cc; query = λ e. cc }
+fault-cause = record { csv = λ e. cc; store = λ e. cc; query = λ e. cc; cert = λ e. cc }
 
 -- a list that is no file's, where nothing is told
 abbrev pub no_bytes : List ℕ

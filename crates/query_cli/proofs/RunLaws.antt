@@ -5,7 +5,7 @@ use Rattle.std.specs.declared.alloc.Global.{Global}
 use Rattle.semantics.specs.Files.{Files, IfTold}
 use Rattle.query_cli.specs.Commands.{Answers, Command, once, new_store, load, append, check, query, gen, is_reader, is_writer, refusal_of}
 use Rattle.query_cli.specs.Reading.{Shown, reading_with}
-use Rattle.query_cli.specs.Refusals.{Refusal, absent, bad_csv, bad_query, bad_store, called_for, domain, query_rank, query_unknown, range, series_fault, status_of, store_fault, too_big, usage}
+use Rattle.query_cli.specs.Refusals.{Refusal, absent, arena_full, bad_cert, bad_csv, bad_query, bad_script, bad_store, called_for, domain, escapes, not_a_cut, query_rank, query_unknown, range, series_fault, status_of, store_fault, too_big, usage, wide}
 use Rattle.query_cli.specs.Run.{Accepts, Hides, IsCounted, IsDone, IsKeptOrReplayed, IsRefusal, IsRefused, IsStatus, IsText, IsUnrefused, Replies}
 use Rattle.query_cli.specs.Stops.{IfRefused, fault_line, fault_status}
 use Rattle.query_cli.specs.declared.stop.Fault.{Fault}
@@ -38,6 +38,12 @@ plain_status store_fault = record { ok = λ e. cc; read = λ e. cc; replace = λ
 plain_status (query_unknown name) = record { ok = λ e. cc; read = λ e. cc; replace = λ e. cc }
 plain_status (query_rank sum) = record { ok = λ e. cc; read = λ e. cc; replace = λ e. cc }
 plain_status (range node) = record { ok = λ e. cc; read = λ e. cc; replace = λ e. cc }
+plain_status (not_a_cut place) = record { ok = λ e. cc; read = λ e. cc; replace = λ e. cc }
+plain_status (escapes lo hi) = record { ok = λ e. cc; read = λ e. cc; replace = λ e. cc }
+plain_status (wide width) = record { ok = λ e. cc; read = λ e. cc; replace = λ e. cc }
+plain_status (bad_cert e) = record { ok = λ e. cc; read = λ e. cc; replace = λ e. cc }
+plain_status (bad_script line) = record { ok = λ e. cc; read = λ e. cc; replace = λ e. cc }
+plain_status arena_full = record { ok = λ e. cc; read = λ e. cc; replace = λ e. cc }
 
 refusal_text : (files : Option Files) (command : Option Command) (r : Refusal) (text : List ℕ) → IsRefusal files command (status_of r) text → IsText files command (status_of r) text
 refusal_text files command usage text h = h
@@ -52,6 +58,12 @@ refusal_text files command store_fault text h = h
 refusal_text files command (query_unknown name) text h = h
 refusal_text files command (query_rank sum) text h = h
 refusal_text files command (range node) text h = h
+refusal_text files command (not_a_cut place) text h = h
+refusal_text files command (escapes lo hi) text h = h
+refusal_text files command (wide width) text h = h
+refusal_text files command (bad_cert e) text h = h
+refusal_text files command (bad_script line) text h = h
+refusal_text files command arena_full text h = h
 
 -- ---- a command that was done
 

@@ -55,7 +55,13 @@ file_at-held m most name bytes h = held-within most (file_of m name) bytes h
 
 -- those that are there, where they are told, else those that came
 abbrev pub came : Option Files → File → File → Reading
-came None csv store = record { csv = λ name. csv; store = λ name. store; shown = no_store }
+came None csv store = record {
+  csv = λ name. csv;
+  store = λ name. store;
+  cert = λ name. missing;
+  script = λ name. missing;
+  shown = no_store;
+}
 came (Some m) csv store = reading_in m
 
 pub came-read : (files : Option Files) (csv store : File) → IsRead files (came files csv store)
@@ -111,7 +117,7 @@ no_words files command s none h =
       reading = came files missing missing;
       read = came-read files missing missing;
       called = ap (refusal_of (came files missing missing)) none ∙ ap Some (sym is);
-      cause = record { csv = λ e. cc; store = λ e. cc; query = λ e. cc };
+      cause = record { csv = λ e. cc; store = λ e. cc; query = λ e. cc; cert = λ e. cc };
     }) h
 
 -- ---- a command that only reads
@@ -142,7 +148,7 @@ no_error refusal (Ok b) a h = cc
 no_error refusal (Err e) a h = cc
 
 series-cause : (name : List ℕ) (e : SeriesErr) → HasCause (series_fault name e)
-series-cause name e = record { csv = λ h. cc; store = λ h. cc; query = λ h. cc }
+series-cause name e = record { csv = λ h. cc; store = λ h. cc; query = λ h. cc; cert = λ h. cc }
 
 -- ---- a store with room
 

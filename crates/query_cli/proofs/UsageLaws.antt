@@ -29,7 +29,7 @@ use Rattle.query_cli.specs.Commands.Load.{load_by, loaded_in}
 use Rattle.query_cli.specs.Commands.Once.{OnceCommand, one_series, sum_query, summed_by, summed_in}
 use Rattle.query_cli.specs.Commands.Query.{QueryCommand, are_bytes, asked_by, asked_in, asked_of, asked_of_none, asked_over, query_in}
 use Rattle.query_cli.specs.Reading.{File, Reading, Shown, answered, held, missing, no_store, oversized, refused}
-use Rattle.query_cli.specs.Refusals.{Refusal, absent, bad_csv, bad_query, bad_store, domain, query_rank, query_refusal, query_unknown, range, series_fault, status_of, store_fault, too_big, usage}
+use Rattle.query_cli.specs.Refusals.{Refusal, absent, arena_full, bad_cert, bad_csv, bad_query, bad_script, bad_store, domain, escapes, not_a_cut, query_rank, query_refusal, query_unknown, range, series_fault, status_of, store_fault, too_big, usage, wide}
 use Rattle.query_cli.specs.Run.{IsRefused}
 use Rattle.query_cli.specs.Steps.{and_then, bytes_of, column_in, csv_bytes, last_reading_in, refused_as, room_in, short_in, store_bytes, store_in, unless_refused}
 use Rattle.query_cli.specs.declared.status.Status.TheVariants as status
@@ -169,7 +169,13 @@ of_status (bad_query e) h = cc
 of_status store_fault e = cc
 of_status (query_unknown name) e = cc
 of_status (query_rank sum) e = cc
-of_status (range node) e = cc
+of_status (range node) h = cc
+of_status (not_a_cut place) h = cc
+of_status (escapes lo hi) h = cc
+of_status (wide width) h = cc
+of_status (bad_cert e) h = cc
+of_status (bad_script line) h = cc
+of_status arena_full h = cc
 
 is_usage : (reading : Reading) (command : Option Command) → refusal_of reading command ≡ Some usage → command ≡ None
 is_usage reading None h = refl

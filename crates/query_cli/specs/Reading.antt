@@ -21,6 +21,14 @@ file_at files most name = file_within most (file_of files name)
 abbrev pub most_csv : ℕ
 most_csv = 2 ^ 26
 
+-- the most bytes of a certificate
+abbrev pub most_cert : ℕ
+most_cert = 2 ^ 26
+
+-- the most bytes of a script
+abbrev pub most_script : ℕ
+most_script = 2 ^ 24
+
 -- the most bytes of a store
 abbrev pub most_store : ℕ
 most_store = 2 ^ 28
@@ -36,11 +44,19 @@ pub data Shown : Type 0 where
 pub record Reading : Type 0 where
   pub csv : List ℕ → File
   pub store : List ℕ → File
+  pub cert : List ℕ → File
+  pub script : List ℕ → File
   pub shown : Shown
 
 -- the files as they are there
 abbrev pub reading_with : Files → Shown → Reading
-reading_with files shown = record { csv = file_at files most_csv; store = file_at files most_store; shown = shown }
+reading_with files shown = record {
+  csv = file_at files most_csv;
+  store = file_at files most_store;
+  cert = file_at files most_cert;
+  script = file_at files most_script;
+  shown = shown;
+}
 
 abbrev pub reading_in : Files → Reading
 reading_in files = reading_with files no_store

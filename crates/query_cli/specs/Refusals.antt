@@ -1,4 +1,8 @@
 -- Why a command is refused, and the line of each refusal.
+use Rattle.answer_check.specs.declared.certificate.CertErr.TheVariants as cert
+use Rattle.answer_check.specs.declared.certificate.CertErr.{CertErr}
+use Rattle.answer_check.specs.declared.certificate.CertKey.TheVariants as key
+use Rattle.answer_check.specs.declared.certificate.CertKey.{CertKey}
 use Rattle.expr_parse.specs.declared.error.ParseErr.TheVariants as text
 use Rattle.expr_parse.specs.declared.error.ParseErr.{ParseErr}
 use Rattle.query_cli.specs.declared.status.Status.TheVariants as status
@@ -26,6 +30,12 @@ pub data Refusal : Type 0 where
   query_unknown : List ℕ → Refusal
   query_rank : ℕ → Refusal
   range : ℕ → Refusal
+  not_a_cut : ℕ → Refusal
+  escapes : ℤ → ℤ → Refusal
+  wide : ℕ → Refusal
+  bad_cert : CertErr → Refusal
+  bad_script : ℕ → Refusal
+  arena_full : Refusal
 
 abbrev pub status_of : Refusal → Status
 status_of usage = status.Usage
@@ -40,6 +50,12 @@ status_of store_fault = status.BadStore
 status_of (query_unknown name) = status.BadQuery
 status_of (query_rank sum) = status.BadQuery
 status_of (range node) = status.Range
+status_of (not_a_cut place) = status.Rejected
+status_of (escapes lo hi) = status.Rejected
+status_of (wide width) = status.Rejected
+status_of (bad_cert e) = status.BadCert
+status_of (bad_script line) = status.BadScript
+status_of arena_full = status.ArenaFull
 
 -- why a query is not admitted
 abbrev pub query_refusal : admission.NotAdmitted → Refusal
@@ -89,6 +105,22 @@ query_line text.TooManySums = codes "query too many sums\n"
 query_line text.TooManyNames = codes "query too many names\n"
 query_line text.Memory = []
 
+-- what of a certificate is not in its form
+abbrev pub key_text : CertKey → List ℕ
+key_text key.Object = codes "object"
+key_text key.Budget = codes "budget"
+key_text key.Cut = codes "cut"
+key_text key.Hi = codes "hi"
+key_text key.Lo = codes "lo"
+key_text key.Query = codes "query"
+key_text key.Other = codes "other"
+
+-- why bytes are no certificate; want of memory has no line
+abbrev pub cert_line : CertErr → List ℕ
+cert_line cert.NotJson = codes "certificate not json\n"
+cert_line (cert.Form k) = codes "certificate form " ++ key_text k ++ codes "\n"
+cert_line cert.Memory = []
+
 -- the line of a refusal
 abbrev pub line_of : Refusal → List ℕ
 line_of usage = codes "usage fault\n"
@@ -104,3 +136,9 @@ line_of store_fault = codes "store fault\n"
 line_of (query_unknown name) = codes "query unknown " ++ name ++ codes "\n"
 line_of (query_rank sum) = codes "query rank " ++ decimal sum ++ codes "\n"
 line_of (range node) = codes "range " ++ decimal node ++ codes "\n"
+line_of (not_a_cut place) = codes "not a cut " ++ decimal place ++ codes "\n"
+line_of (escapes lo hi) = codes "escapes " ++ signed_decimal lo ++ codes " " ++ signed_decimal hi ++ codes "\n"
+line_of (wide width) = codes "wide " ++ decimal width ++ codes "\n"
+line_of (bad_cert e) = cert_line e
+line_of (bad_script line) = codes "script line " ++ decimal line ++ codes "\n"
+line_of arena_full = codes "refused arena full\n"

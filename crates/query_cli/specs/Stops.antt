@@ -1,12 +1,13 @@
 -- Why a command stops before its answer.
 use Rattle.std.specs.Prelude.{◌≡◌, ◌≢◌, ℕ, List, codes, Option, Some, Result, Err, string_bytes}
 use Rattle.semantics.specs.Files.{Files, IfTold}
+use Rattle.answer_check.specs.declared.certificate.CertErr.TheVariants as cert
 use Rattle.expr_parse.specs.declared.error.ParseErr.TheVariants as text
 use Rattle.semantics.specs.Admission.{NotAdmitted}
 use Rattle.series_csv.specs.declared.fault.CsvErr.TheVariants as csv
 use Rattle.store_file.specs.declared.decoding.StoreErr.TheVariants as stored
 use Rattle.query_cli.specs.Reading.{File, file_at}
-use Rattle.query_cli.specs.Refusals.{Refusal, bad_csv, bad_query, bad_store, line_of, query_refusal, status_of}
+use Rattle.query_cli.specs.Refusals.{Refusal, bad_cert, bad_csv, bad_query, bad_store, line_of, query_refusal, status_of}
 use Rattle.query_cli.specs.Steps.{bytes_of}
 use Rattle.query_cli.specs.declared.stop.Fault.{Fault}
 use Rattle.query_cli.specs.declared.stop.Fault.TheVariants as fault
@@ -35,6 +36,7 @@ pub record HasCause (r : Refusal) : Type 0 where
   pub csv : r ≢ bad_csv csv.Memory
   pub store : r ≢ bad_store stored.Memory
   pub query : r ≢ bad_query text.Memory
+  pub cert : r ≢ bad_cert cert.Memory
 
 -- the reply of a refusal has its status and its line
 pub record IsReplyOf (r : Refusal) (reply : Reply) : Type 0 where

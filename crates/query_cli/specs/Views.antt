@@ -6,7 +6,7 @@ use Rattle.query_cli.specs.Commands.Column.{ColumnCommand}
 use Rattle.query_cli.specs.Commands.Check.{CheckCommand}
 use Rattle.query_cli.specs.Commands.Query.{QueryCommand}
 use Rattle.query_cli.specs.Commands.Gen.{GenCommand}
-use Rattle.query_cli.specs.Refusals.{Refusal, usage, absent, too_big, bad_csv, bad_store, series_fault, domain, bad_query, query_rank, query_unknown, store_fault, range}
+use Rattle.query_cli.specs.Refusals.{Refusal, usage, absent, too_big, bad_csv, bad_store, series_fault, domain, bad_query, query_rank, query_unknown, store_fault, range, not_a_cut, escapes, wide, bad_cert, bad_script, arena_full}
 use Rattle.query_cli.specs.declared.commands.Command.{Command as CommandCode}
 use Rattle.query_cli.specs.declared.commands.Command.TheVariants as command
 use Rattle.query_cli.specs.declared.commands.once.Once.{Once}
@@ -73,3 +73,9 @@ refusal_view (refusal.QueryUnknown name) = query_unknown name
 refusal_view (refusal.QueryRank sum) = query_rank sum
 refusal_view refusal.StoreFault = store_fault
 refusal_view (refusal.Range node) = range node
+refusal_view (refusal.NotACut place) = not_a_cut place
+refusal_view (refusal.Escapes lo hi) = escapes lo hi
+refusal_view (refusal.Wide width) = wide width
+refusal_view (refusal.BadCert e) = bad_cert e
+refusal_view (refusal.BadScript line) = bad_script line
+refusal_view refusal.ArenaFull = arena_full

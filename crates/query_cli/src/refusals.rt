@@ -5,6 +5,7 @@ ghost use Rattle.std.specs.Prelude.{◌≡◌};
 pub(crate) mod lines;
 
 use crate::status::Status;
+use answer_check::CertErr;
 use expr::Name;
 use expr_parse::ParseErr;
 use series_csv::CsvErr;
@@ -28,6 +29,16 @@ pub(crate) enum Refusal<'a> {
     StoreFault,
     /// The number of a node.
     Range(u32),
+    /// The place in a certificate of the first list that is none of a cut.
+    NotACut(u32),
+    /// The ends of the interval of a certificate's cut.
+    Escapes { lo: i128, hi: i128 },
+    /// How wide the interval is that a certificate states.
+    Wide(u128),
+    BadCert(CertErr),
+    /// The number of a line.
+    BadScript(u32),
+    ArenaFull,
 }
 
 impl Refusal<'_> {
@@ -46,6 +57,10 @@ impl Refusal<'_> {
                 Status::BadQuery,
             Refusal::StoreFault => Status::BadStore,
             Refusal::Range(_) => Status::Range,
+            Refusal::NotACut(_) | Refusal::Escapes { .. } | Refusal::Wide(_) => Status::Rejected,
+            Refusal::BadCert(_) => Status::BadCert,
+            Refusal::BadScript(_) => Status::BadScript,
+            Refusal::ArenaFull => Status::ArenaFull,
         }
     }
 }

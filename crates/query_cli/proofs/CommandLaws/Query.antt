@@ -25,7 +25,13 @@ use Rattle.query_cli.proofs.StepLaws.{came, came-refused, kept-files, same-files
 
 -- what is there, where it is told, else a file that was read so
 abbrev pub seen : Option Files → Shown → File → Reading
-seen None shown file = record { csv = λ name. missing; store = λ name. file; shown = shown }
+seen None shown file = record {
+  csv = λ name. missing;
+  store = λ name. file;
+  cert = λ name. missing;
+  script = λ name. missing;
+  shown = shown;
+}
 seen (Some m) shown file = reading_with m shown
 
 seen_read : (files : Option Files) (shown : Shown) (file : File) → IsRead files (seen files shown file)

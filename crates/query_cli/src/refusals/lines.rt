@@ -1,9 +1,10 @@
-ghost use Rattle.query_cli.specs.Refusals.{csv_line, line_of, query_line, series_line, store_line, domain, range, query_rank, query_unknown};
+ghost use Rattle.query_cli.specs.Refusals.{cert_line, csv_line, key_text, line_of, query_line, series_line, store_line, bad_script, domain, escapes, not_a_cut, range, query_rank, query_unknown, wide};
 ghost use Rattle.query_cli.specs.Views.{refusal_view};
 ghost use Rattle.std.specs.Prelude.{◌≡◌, IfOk, string_bytes};
 
 use crate::refusals::Refusal;
 use crate::words::name_text;
+use answer_check::{CertErr, CertKey};
 use expr::Name;
 use expr_parse::ParseErr;
 use series_csv::CsvErr;
@@ -98,6 +99,66 @@ fn line_of_range(alloc: Global, node: u32) -> Result<String, AllocError>
     Ok(text)
 }
 
+fn line_of_cut(alloc: Global, place: u32) -> Result<String, AllocError>
+    ensures { IfOk result (λ t. string_bytes t ≡ line_of (not_a_cut place)) }
+{
+    let text = format!(in alloc; "not a cut {place}\n")?;
+    Ok(text)
+}
+
+fn line_of_escape(alloc: Global, lo: i128, hi: i128) -> Result<String, AllocError>
+    ensures { IfOk result (λ t. string_bytes t ≡ line_of (escapes lo hi)) }
+{
+    let text = format!(in alloc; "escapes {lo} {hi}\n")?;
+    Ok(text)
+}
+
+fn line_of_width(alloc: Global, width: u128) -> Result<String, AllocError>
+    ensures { IfOk result (λ t. string_bytes t ≡ line_of (wide width)) }
+{
+    let text = format!(in alloc; "wide {width}\n")?;
+    Ok(text)
+}
+
+fn key_text(key: CertKey) -> &'static str
+    ensures { result.now ≡ key_text key }
+{
+    match key {
+        CertKey::Object => "object",
+        CertKey::Budget => "budget",
+        CertKey::Cut => "cut",
+        CertKey::Hi => "hi",
+        CertKey::Lo => "lo",
+        CertKey::Query => "query",
+        CertKey::Other => "other",
+    }
+}
+
+fn line_of_form(alloc: Global, key: CertKey) -> Result<String, AllocError>
+    ensures { IfOk result (λ t. string_bytes t ≡ cert_line (CertErr.Form key)) }
+{
+    let key = key_text(key);
+    let text = format!(in alloc; "certificate form {key}\n")?;
+    Ok(text)
+}
+
+fn line_of_cert(alloc: Global, e: CertErr) -> Result<String, AllocError>
+    ensures { IfOk result (λ t. string_bytes t ≡ cert_line e) }
+{
+    match e {
+        CertErr::NotJson => String::from_str(alloc, "certificate not json\n"),
+        CertErr::Form(key) => line_of_form(alloc, key),
+        CertErr::Memory => Err(AllocError),
+    }
+}
+
+fn line_of_script(alloc: Global, line: u32) -> Result<String, AllocError>
+    ensures { IfOk result (λ t. string_bytes t ≡ line_of (bad_script line)) }
+{
+    let text = format!(in alloc; "script line {line}\n")?;
+    Ok(text)
+}
+
 pub(crate) fn line_of_refusal(alloc: Global, refusal: &Refusal<'_>) -> Result<String, AllocError>
     ensures { IfOk result (λ t. string_bytes t ≡ line_of (refusal_view refusal.now)) }
 {
@@ -114,5 +175,11 @@ pub(crate) fn line_of_refusal(alloc: Global, refusal: &Refusal<'_>) -> Result<St
         Refusal::QueryRank(sum) => line_of_rank(alloc, *sum),
         Refusal::StoreFault => String::from_str(alloc, "store fault\n"),
         Refusal::Range(node) => line_of_range(alloc, *node),
+        Refusal::NotACut(place) => line_of_cut(alloc, *place),
+        Refusal::Escapes { lo, hi } => line_of_escape(alloc, *lo, *hi),
+        Refusal::Wide(width) => line_of_width(alloc, *width),
+        Refusal::BadCert(e) => line_of_cert(alloc, *e),
+        Refusal::BadScript(line) => line_of_script(alloc, *line),
+        Refusal::ArenaFull => String::from_str(alloc, "refused arena full\n"),
     }
 }

@@ -6,7 +6,7 @@ use Rattle.descent.specs.Held.{AreTracksOf, Held, shown}
 use Rattle.descent.specs.Known.{facts_in}
 use Rattle.descent.specs.Rows.{Track}
 use Rattle.descent.specs.Spelled.{Token, spelled}
-use Rattle.interval.specs.Interval.{Has, Interval}
+use Rattle.interval.specs.Interval.{Has, Interval, IsWithin}
 use Rattle.seg_tree.specs.Linked.{IsUsed, Places, used}
 use Rattle.seg_tree.specs.Reached.{Reached, Stands, lengths_of, roots_of}
 use Rattle.seg_tree.specs.Trees.{IsReached, IsTreeOf, value_of}
@@ -17,7 +17,7 @@ use Rattle.semantics.specs.Plain.{IsPlain}
 use Rattle.sessions.specs.declared.events.Event.{Event}
 use Rattle.sessions.specs.declared.events.Event.TheVariants.{Append}
 use Rattle.sessions.specs.Events.{last_slot}
-use Rattle.sessions.specs.Hub.{Session, HubState, first_nodes, forest_of}
+use Rattle.sessions.specs.Hub.{Session, HubState, first_nodes, forest_of, interval_of}
 use Rattle.sessions.specs.Steady.{value_for}
 use Rattle.store_file.specs.Grown.{made_in}
 use Rattle.store_file.specs.StoreValue.{IsStoreValue, StoreValue}
@@ -38,8 +38,13 @@ pub record HubView : Type 0 where
   pub store : StoreParts
   pub slots : List (Option Kept)
 
-abbrev pub reached_by : Places → Kept → Reached
-reached_by places k = record { nodes = places; trees = k.trees }
+-- the nodes that some trees reach
+abbrev pub reached_from : Places → List Tree → Reached
+reached_from places trees = record { nodes = places; trees = trees }
+
+-- the rows are those of nodes that the trees reach
+abbrev pub AreTracksIn : Reached → List (Track (Held ℕ)) → Type 0
+AreTracksIn r tracks = AreTracksOf (lengths_of r) (roots_of r) (Stands r) tracks
 
 -- a session as it is kept, over the places of an arena, stands for this one
 pub record Keeps (places : Places) (k : Kept) (s : Session) : Type 0 where
@@ -54,11 +59,11 @@ pub record Keeps (places : Places) (k : Kept) (s : Session) : Type 0 where
   pub spelled : k.spelled ≡ spelled s.query
   pub steps : ℕ
   pub reached : s.nodes ≡ after s.query (first_nodes s.store s.query) steps
-  pub tracks : AreTracksOf (lengths_of (reached_by places k)) (roots_of (reached_by places k))
-      (Stands (reached_by places k)) k.tracks
+  pub tracks : AreTracksIn (reached_from places k.trees) k.tracks
   pub rows : shown k.tracks ≡ cut_of s.nodes
   pub running : k.running ≡ s.running
   pub holds : Has s.running (value_for s.store s.query)
+  pub narrow : IsWithin s.running (interval_of s.query s.nodes)
 
 -- a slot is free on both sides, or has a session that stands for the other
 abbrev pub KeepsSlot : Places → Option Kept → Option Session → Type 0

@@ -110,7 +110,7 @@ fn seg_of(nodes: &Places, place: u32) -> Seg
 }
 
 /// The root of a tree, where it has readings.
-fn root_of(nodes: &Places, tree: Tree) -> Option<(u32, Seg)>
+pub(crate) fn root_of(nodes: &Places, tree: Tree) -> Option<(u32, Seg)>
     requires { IsTreeOf nodes.now.nodes tree }
     ensures none { IsNone result ↔ (tree.root ≡ None) }
     ensures place { IfSome result (λ r. tree.root ≡ Some r.0) }
@@ -121,7 +121,7 @@ fn root_of(nodes: &Places, tree: Tree) -> Option<(u32, Seg)>
 }
 
 /// The children of the fork at a place.
-fn children_of(nodes: &Places, place: u32) -> Children<u32>
+pub(crate) fn children_of(nodes: &Places, place: u32) -> Children<u32>
     requires within { IsUsed nodes.now.nodes place }
     requires fork { IsFork (node_at nodes.now.nodes place).below }
     requires left_within { IsUsed nodes.now.nodes (left_child (node_at nodes.now.nodes place).below) }
@@ -143,7 +143,7 @@ fn children_of(nodes: &Places, place: u32) -> Children<u32>
 }
 
 /// Puts the readings of the leaf at a place into `into`, and answers how many it has.
-fn leaf_of(nodes: &Places, place: u32, into: &mut [i32; 16]) -> u32
+pub(crate) fn leaf_of(nodes: &Places, place: u32, into: &mut [i32; 16]) -> u32
     requires within { IsUsed nodes.now.nodes place }
     requires leaf { IsLeaf (node_at nodes.now.nodes place).seg.len (node_at nodes.now.nodes place).below }
     ensures readings { into.new ≡ kept (node_at nodes.now.nodes place).below }

@@ -7,6 +7,7 @@ mod arena_nodes;
 mod building;
 mod growing;
 mod last;
+mod lasting_nodes;
 mod laws;
 mod nodes;
 mod places;
@@ -17,5 +18,6 @@ mod tests;
 
 pub use arena::{Arena, Tree, TreeErr};
 pub use arena_nodes::ArenaNodes;
+pub use lasting_nodes::LastingNodes;
 pub use laws::{trees_differ, trees_grow};
 pub use nodes::{Below, Node};

@@ -32,10 +32,10 @@ from_zero-le (pos a) (pos b) h = omega (arith, ints, h)
 from_zero-le (pos a) (negsuc b) h = absurd (omega (arith, ints, h))
 from_zero-le (negsuc a) y h = omega arith
 
-narrower : (a b : Interval) → IsWithin a b → width_of a ≤ width_of b
+pub narrower : (a b : Interval) → IsWithin a b → width_of a ≤ width_of b
 narrower a b h = from_zero-le (a.hi -ℤ a.lo) (b.hi -ℤ b.lo) (omega (arith, ints, h.low, h.high))
 
-is_le : (a b : ℕ) → a ≤ b → leb a b ≡ true
+pub is_le : (a b : ℕ) → a ≤ b → leb a b ≡ true
 is_le a b h = grind (arith, nat_tests)
 
 -- ---- a session that is done stays so

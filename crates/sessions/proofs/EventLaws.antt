@@ -157,3 +157,7 @@ all_possible k (l ∷ ls) = followed_possible (events_in k l) (events_from (suc 
 pub script_possible : (bytes : List ℕ) (es : List Event) → script_of bytes ≡ Ok es → AreEvents es
 unfolding script_of
 script_possible bytes es e = subst AllPossible e (all_possible 1 (lines bytes))
+
+pub last_possible : (es : List Event) (e : Event) → AreEvents (es ++ e ∷ []) → IsEvent e
+last_possible [] e are = are.0
+last_possible (x ∷ es) e are = last_possible es e are.1

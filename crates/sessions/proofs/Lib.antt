@@ -3,6 +3,9 @@ pub mod EndLaw
 pub mod EventLaws
 pub mod HeldLaw
 pub mod NameLaws
+pub mod QueryLaws
 pub mod ScriptLaws
+pub mod SessionLaws
 pub mod SteadyLaw
+pub mod StoreNodes
 pub mod WordLaws

@@ -1,7 +1,9 @@
 pub mod Alone
+pub mod Cuts
 pub mod Events
 pub mod Hub
 pub mod Kept
+pub mod Queries
 pub mod Replies
 pub mod Script
 pub mod Steady

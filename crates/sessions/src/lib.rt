@@ -4,8 +4,10 @@
 mod events;
 mod laws;
 mod lines;
+mod queries;
 mod replies;
 mod scripts;
+mod session;
 mod words;
 
 pub use events::Event;

@@ -152,3 +152,35 @@ fn appends_and_sweeps(rt: HostRuntime) -> Result<(), TreeErr> {
     assert_eq!(rt; arena.used(), 0);
     Ok(())
 }
+
+#[test]
+fn hands_out_the_nodes_that_stay(rt: HostRuntime) -> Result<(), TreeErr> {
+    assert!(rt; are_readings(&READINGS));
+    let mut arena = Arena::new(rt.alloc(), 0, 64);
+    let trees = [arena.build(&READINGS)?];
+    let mut nodes = LastingNodes::new(&arena, &trees);
+    let mut source = ArenaNodes::new(&arena, &trees);
+    assert_eq!(rt; (nodes.count(), nodes.readings_len(0)), (1, 33));
+    let Ok(Some((root, seg))) = nodes.root(&mut source, 0) else {
+        return Err(TreeErr::Memory)
+    };
+    assert_eq!(rt; (root, seg.start, seg.len, seg.d), (4, 0, 33, 10));
+    let Ok(children) = nodes.children(&mut source, root) else {
+        return Err(TreeErr::Memory)
+    };
+    assert_eq!(rt; (children.right_seg.start, children.right_seg.len), (32, 1));
+
+    let mut small = Arena::new(rt.alloc(), 0, 1);
+    let trees = [small.build(&[7])?];
+    let mut nodes = LastingNodes::new(&small, &trees);
+    let mut source = ArenaNodes::new(&small, &trees);
+    let Ok(Some((leaf, _seg))) = nodes.root(&mut source, 0) else {
+        return Err(TreeErr::Memory);
+    };
+    let mut xs = [0; 16];
+    let Ok(n) = nodes.readings(&mut source, leaf, &mut xs) else {
+        return Err(TreeErr::Memory);
+    };
+    assert_eq!(rt; (n, xs[0]), (1, 7));
+    Ok(())
+}

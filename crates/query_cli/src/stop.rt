@@ -8,7 +8,7 @@ use crate::refusals::Refusal;
 use crate::refusals::lines::line_of_refusal;
 use crate::status::Status;
 use num_text::Memory;
-use std::alloc::{AllocError, Global};
+use std::alloc::{AllocError, AllocFailed, Global};
 
 /// A status, and the text that is written with it.
 #[derive(Drop)]
@@ -74,6 +74,14 @@ impl From<AllocError> for Halt {
     ghost from_gives = { λ _ h. h ≡ Stopped no_memory };
 
     fn from(_e: AllocError) -> Halt {
+        Halt::Stopped(Stop::Memory)
+    }
+}
+
+impl<T: Drop> From<AllocFailed<T>> for Halt {
+    ghost from_gives = { λ _ h. h ≡ Stopped no_memory };
+
+    fn from(_e: AllocFailed<T>) -> Halt {
         Halt::Stopped(Stop::Memory)
     }
 }

@@ -124,10 +124,7 @@ fn read_facts<S: Shelf>(
         let series = facts.len() as u32;
         let d = read_greatest(alloc, nodes, shelf, series)?;
         let n = nodes.readings_len(series);
-        match facts.push(Fact { name: *name, n, d }) {
-            Ok(()) => {}
-            Err(_) => return Err(Halt::Stopped(Stop::Memory)),
-        }
+        facts.push(Fact { name: *name, n, d })?;
     }
     Ok(facts)
 }

@@ -20,7 +20,7 @@ loop-name-preserved g c =
     let read = c.read_greatest.ensures in
     let xs = c.loop-name.facts.items in
     let fact : Fact = record { name = c.name-item.result; n = c.readings_len-n.result; d = c.in_ok-d.d } in
-    let pushed : c.push.new.self.items ≡ xs ++ fact ∷ [] = c.in-Ok.ensures.items in
+    let pushed : c.push.new.self.items ≡ xs ++ fact ∷ [] = c.in_ok-push.ensures.items in
     let series : c.len-series.result ≡ i = omega (arith, c.len-series.ensures, c.loop-name.facts.ok, before.count) in
     let count : c.readings_len-n.result ≡ slice_index new.lengths i =
     c.readings_len-n.ensures.value ∙ ap (slice_index new.lengths) series in
@@ -65,8 +65,8 @@ returns-in_err-d-clause-means g c = λ forest.
     let read = c.read_greatest.ensures.means forest in
     (λ m. read.0 (before.0 m), λ m. before.1 (read.1 m))
 
-pub returns-in-Err-clause-means : goal.returns-in-Err-clause-means
-returns-in-Err-clause-means g c = λ forest.
+pub returns-in_err-push-clause-means : goal.returns-in_err-push-clause-means
+returns-in_err-push-clause-means g c = λ forest.
     let before = c.loop-name.invariant.means forest in
     let read = c.read_greatest.ensures.means forest in
     (λ m. read.0 (before.0 m), λ m. before.1 (read.1 m))

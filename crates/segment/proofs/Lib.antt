@@ -8,5 +8,6 @@ pub mod ReadingLaws
 pub mod SanityLaws
 pub mod ShapeLaws
 pub mod StepLaws
+pub mod StraightLaws
 pub mod TreeLaws
 pub mod UnitLaws

@@ -64,8 +64,28 @@ pub fn miss(xs: &[i32], curve: &Curve) -> u128
 /// So many misses add up within 64 bits.
 const BLOCK: usize = 4096;
 
-/// The sum of what the estimates miss at the places from `from` up to `to`. Each estimate is made from the one before.
+/// The sum of what the estimates miss at the places from `from` up to `to`.
 fn miss_between(xs: &[i32], curve: &Curve, from: usize, to: usize) -> u64
+    requires some { from < to }
+    requires within { to ≤ length xs.now }
+    requires block { to ≤ from + BLOCK }
+    requires few { length xs.now ≤ 2 ^ 20 }
+    requires small { AreReadings xs.now }
+    requires bounded { IsBounded curve.now (length xs.now) (greatest_reading xs.now) }
+    ensures value { result + sum_below (miss_at curve.now xs.now) from ≡ sum_below (miss_at curve.now xs.now) to }
+    ensures bound { result ≤ (to - from) * 2 ^ 50 }
+{
+    if curve.c != 0 {
+        return miss_of_bent(xs, curve, from, to);
+    }
+    if curve.b != 0 {
+        return miss_of_line(xs, curve, from, to);
+    }
+    miss_of_level(xs, curve, from, to)
+}
+
+/// The same of a curve of any degree. Each estimate is made from the one before.
+fn miss_of_bent(xs: &[i32], curve: &Curve, from: usize, to: usize) -> u64
     requires some { from < to }
     requires within { to ≤ length xs.now }
     requires block { to ≤ from + BLOCK }
@@ -83,6 +103,49 @@ fn miss_between(xs: &[i32], curve: &Curve, from: usize, to: usize) -> u64
         sum += gap(xs[i], estimate);
         estimate = plus(estimate, step);
         step = plus(step, bend);
+    }
+    sum
+}
+
+/// The same of a line, whose estimates go up by its slope.
+fn miss_of_line(xs: &[i32], curve: &Curve, from: usize, to: usize) -> u64
+    requires some { from < to }
+    requires within { to ≤ length xs.now }
+    requires block { to ≤ from + BLOCK }
+    requires few { length xs.now ≤ 2 ^ 20 }
+    requires small { AreReadings xs.now }
+    requires bounded { IsBounded curve.now (length xs.now) (greatest_reading xs.now) }
+    requires straight { curve.now.c ≡ pos 0 }
+    ensures value { result + sum_below (miss_at curve.now xs.now) from ≡ sum_below (miss_at curve.now xs.now) to }
+    ensures bound { result ≤ (to - from) * 2 ^ 50 }
+{
+    let slope = curve.b;
+    let mut sum = 0u64;
+    let mut estimate = curve.estimate(from);
+    for i in from..to {
+        sum += gap(xs[i], estimate);
+        estimate = plus(estimate, slope);
+    }
+    sum
+}
+
+/// The same of a constant, which is each estimate.
+fn miss_of_level(xs: &[i32], curve: &Curve, from: usize, to: usize) -> u64
+    requires some { from < to }
+    requires within { to ≤ length xs.now }
+    requires block { to ≤ from + BLOCK }
+    requires few { length xs.now ≤ 2 ^ 20 }
+    requires small { AreReadings xs.now }
+    requires bounded { IsBounded curve.now (length xs.now) (greatest_reading xs.now) }
+    requires straight { curve.now.c ≡ pos 0 }
+    requires level { curve.now.b ≡ pos 0 }
+    ensures value { result + sum_below (miss_at curve.now xs.now) from ≡ sum_below (miss_at curve.now xs.now) to }
+    ensures bound { result ≤ (to - from) * 2 ^ 50 }
+{
+    let estimate = curve.estimate(from);
+    let mut sum = 0u64;
+    for i in from..to {
+        sum += gap(xs[i], estimate);
     }
     sum
 }

@@ -2,7 +2,7 @@ use Rattle.std.proofs.Common.{◌≡◌, ◌+◌, ◌-◌, ◌*◌, ◌^◌, ◌
 use Rattle.semantics.specs.Sums.{sum_below}
 use Rattle.segment.specs.Measure.{estimate_at, miss_at}
 use Rattle.segment.specs.Steps.{step_at}
-use Rattle.segment.proofs.measures.miss_between.Given as goal
+use Rattle.segment.proofs.measures.miss_of_bent.Given as goal
 
 abbrev pub invariant-loop-i : goal.invariant-loop-i
 invariant-loop-i l = record {

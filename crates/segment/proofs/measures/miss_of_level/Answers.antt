@@ -1,0 +1,41 @@
+use Rattle.std.proofs.Common.{◌≡◌, ◌+◌, ◌*◌, ◌<◌, pos, ◌+ℤ◌, length, arith, SFits, w32, w64, get_or, rules, refl, ap, sym, ◌∙◌, to_z}
+use Rattle.std.proofs.lemmas.Int.{to_z-of_z}
+use Rattle.semantics.specs.Sums.{sum_below}
+use Rattle.semantics.proofs.SumLaws.{sum_below-more}
+use Rattle.segment.specs.Measure.{estimate_at, miss_at}
+use Rattle.segment.proofs.Bounds.{greatest_reading-le, small_from_bounded}
+use Rattle.segment.proofs.StraightLaws.{level-same}
+use Rattle.segment.proofs.measures.miss_of_level.Goals as goal
+
+pub estimate-estimate-requires-clause-constant : goal.estimate-estimate-requires-clause-constant
+estimate-estimate-requires-clause-constant c =
+    (small_from_bounded c.args.curve.now _ _ (greatest_reading-le c.args.xs.now c.requires.small) c.requires.bounded).constant
+
+pub estimate-estimate-requires-clause-linear : goal.estimate-estimate-requires-clause-linear
+estimate-estimate-requires-clause-linear c =
+    let within : c.args.from < length c.args.xs.now = omega arith in
+    (small_from_bounded c.args.curve.now _ _ (greatest_reading-le c.args.xs.now c.requires.small) c.requires.bounded).linear c.args.from within
+
+pub estimate-estimate-requires-clause-square : goal.estimate-estimate-requires-clause-square
+estimate-estimate-requires-clause-square c =
+    let within : c.args.from < length c.args.xs.now = omega arith in
+    (small_from_bounded c.args.curve.now _ _ (greatest_reading-le c.args.xs.now c.requires.small) c.requires.bounded).square c.args.from within
+
+pub gap-sum-requires-clause-estimate : goal.gap-sum-requires-clause-estimate
+gap-sum-requires-clause-estimate c =
+    let e : SFits w64 c.estimate-estimate.result = search rules in
+    rw (to_z-of_z w64 c.estimate-estimate.result e) (omega (arith, c.estimate-estimate.ensures.bound))
+
+pub loop-i-preserved : goal.loop-i-preserved
+loop-i-preserved c =
+    let p = c.args.curve.now in
+    let i = c.loop-i.i in
+    let x : SFits w32 (get_or c.args.xs.now i (pos 0)) = search rules in
+    let e : SFits w64 c.estimate-estimate.result = search rules in
+    let same : c.estimate-estimate.result ≡ estimate_at p i = c.estimate-estimate.ensures.value ∙ level-same p c.args.from i c.requires.straight c.requires.level in
+    let gap = rw (to_z-of_z w32 (get_or c.args.xs.now i (pos 0)) x, to_z-of_z w64 c.estimate-estimate.result e, same) at c.gap-sum.ensures.value in
+    let one_more = sum_below-more (miss_at p c.args.xs.now) i _ _ refl refl in
+    record {
+      sum = omega (arith, c.loop-i.invariant.sum, gap, one_more);
+      fits = omega arith;
+    }

@@ -303,7 +303,24 @@ fn quotient(z: i128, n: usize) -> i128
     ensures value { result ≡ floor_of z n }
     ensures bound { unsigned_abs result ≤ unsigned_abs z }
 {
+    if z.unsigned_abs() <= SHORT && n as u128 <= SHORT {
+        return i128::from(short_quotient(z as i64, n));
+    }
     z.div_euclid(n as i128)
+}
+
+/// Numbers up to this one are divided within 64 bits, which is faster.
+const SHORT: u128 = 1 << 62;
+
+/// The same within 64 bits.
+fn short_quotient(z: i64, n: usize) -> i64
+    requires some { 0 < n }
+    requires small { unsigned_abs z ≤ 2 ^ 62 }
+    requires short { n ≤ 2 ^ 62 }
+    ensures value { result ≡ floor_of z n }
+    ensures bound { unsigned_abs result ≤ unsigned_abs z }
+{
+    z.div_euclid(n as i64)
 }
 
 /// A number less the product of two.
@@ -358,20 +375,45 @@ fn moment(xs: &[i32]) -> i128
     ensures bound { unsigned_abs result ≤ length xs.now * 2 ^ 50 }
 {
     let mut sum = 0i128;
-    for i in 0..xs.len() {
-        sum = poly::plus(sum, moment_of(xs[i], i));
+    let mut from = 0;
+    while from < xs.len() {
+        let to = xs.len().min(from + BLOCK);
+        let part = moment_between(xs, from, to);
+        sum = poly::plus(sum, i128::from(part));
+        from = to;
+    }
+    sum
+}
+
+/// So many readings times their places add up within 64 bits.
+const BLOCK: usize = 512;
+
+/// The sum of the readings at the places from `from` up to `to`, each times its place.
+fn moment_between(xs: &[i32], from: usize, to: usize) -> i64
+    requires some { from < to }
+    requires within { to ≤ length xs.now }
+    requires block { to ≤ from + BLOCK }
+    requires few { length xs.now ≤ 2 ^ 20 }
+    requires small { AreReadings xs.now }
+    ensures value { total_below (moment_at (reading xs.now)) to
+        ≡ total_below (moment_at (reading xs.now)) from +ℤ result }
+    ensures bound { unsigned_abs result ≤ (to - from) * 2 ^ 50 }
+{
+    let mut sum = 0i64;
+    for i in from..to {
+        sum = plus(sum, moment_of(xs[i], i));
     }
     sum
 }
 
 /// A reading times its place.
-fn moment_of(x: i32, i: usize) -> i128
+fn moment_of(x: i32, i: usize) -> i64
     requires reading { unsigned_abs x ≤ 10 ^ 9 }
     requires place { i < 2 ^ 20 }
     ensures value { result ≡ pos i *ℤ x }
     ensures bound { unsigned_abs result ≤ 2 ^ 50 }
 {
-    i128::from(at(i64::from(x), i))
+    at(i64::from(x), i)
 }
 
 /// The bend by the sums of three blocks.

@@ -1,10 +1,9 @@
 -- The plain query of a text, by what the parts of its making answer.
-use Rattle.std.proofs.Common.{◌≡◌, ◌∙◌, ℕ, List, Some, None, Result, Ok, Err, refl, sym, ap, subst}
+use Rattle.std.proofs.Common.{◌≡◌, ◌∙◌, ℕ, List, Some, None, Ok, Err, refl, sym, ap}
 use Rattle.expr.specs.Refusals.{refusal_by}
 use Rattle.expr.specs.declared.admission.AdmitErr.{AdmitErr}
 use Rattle.expr.specs.declared.admission.AdmitErr.TheVariants.{Unknown, Rank, Domain, Range}
 use Rattle.expr_parse.specs.Parsed.{parsed}
-use Rattle.expr_parse.specs.declared.error.ParseErr.{ParseErr}
 use Rattle.semantics.specs.Admission.{Fact, refusal_of}
 use Rattle.semantics.specs.Plain.{plain}
 use Rattle.semantics.specs.Term.{QueryTerm}

@@ -1,21 +1,20 @@
 -- A session that is kept, from its opening on and step by step.
-use Rattle.std.proofs.Common.{◌≡◌, ◌∙◌, ℕ, suc, ◌≤◌, ℤ, pos, ◌-ℤ◌, Bool, true, false, cond, leb, List, length, map, Option, Some, None, refl, sym, ap, ap₂, subst, arith}
+use Rattle.std.proofs.Common.{◌≡◌, ◌∙◌, ℕ, suc, ◌≤◌, ℤ, Bool, true, false, cond, List, length, map, Option, Some, None, refl, sym, ap, ap₂, subst, arith}
 use Rattle.std.specs.Prelude.{◌↔◌, IsSomeAnd, nat_le, unwrap_or}
 use Rattle.std.specs.List.{All}
-use Rattle.std.proofs.lemmas.Bool.{cases_Bool}
 use Rattle.descent.specs.Choice.{choice}
 use Rattle.descent.specs.Descents.{Nodes, after, cut_of, next}
 use Rattle.descent.specs.Held.{AreNodesOf, CutView, Held, heads, shown}
 use Rattle.descent.specs.Known.{facts_in}
 use Rattle.descent.specs.Rows.{Track}
-use Rattle.descent.specs.Spelled.{Token, spelled}
+use Rattle.descent.specs.Spelled.{spelled}
 use Rattle.descent.specs.Sums.{interval_in, width_of}
 use Rattle.descent.proofs.Admits.{facts-heads}
 use Rattle.descent.proofs.Ends.{none-wide}
-use Rattle.descent.proofs.Reached.{after_nodes, roots_nodes, width-from}
+use Rattle.descent.proofs.Reached.{after_nodes, roots_nodes}
 use Rattle.descent.proofs.Spelling.{spelling_tells_queries}
 use Rattle.descent.proofs.Values.{each_cut_holds_the_value}
-use Rattle.interval.specs.Interval.{Has, Interval, IsWithin, ShareNone, meet_of}
+use Rattle.interval.specs.Interval.{Has, Interval, IsWithin, meet_of}
 use Rattle.seg_tree.specs.Linked.{Places}
 use Rattle.seg_tree.specs.Reached.{Means, Reached, forest_of as reached_forest}
 use Rattle.seg_tree.specs.Trees.{IsTreeOf, value_of}

@@ -1,5 +1,5 @@
 -- The nodes of a store: its trees in its arena, under its names.
-use Rattle.std.proofs.Common.{◌≡◌, ◌∙◌, ℕ, zero, suc, ◌+◌, ◌<◌, ◌≤◌, ℤ, pos, Bool, true, false, cond, List, [], ◌∷◌, ◌++◌, length, map, drop, get_or, slice_index, Option, Some, None, refl, sym, ap, ap₂, subst, inl, inr, arith}
+use Rattle.std.proofs.Common.{◌≡◌, ◌∙◌, ℕ, zero, suc, ◌+◌, ◌<◌, ◌≤◌, pos, Bool, true, false, List, [], ◌∷◌, length, map, drop, get_or, slice_index, Option, Some, None, refl, sym, ap, ap₂, subst, arith}
 use Rattle.std.specs.List.{All}
 use Rattle.std.specs.Map.{keys_of, values_of}
 use Rattle.std.specs.Prelude.{◌||◌}
@@ -11,7 +11,7 @@ use Rattle.descent.specs.Descents.{roots}
 use Rattle.descent.specs.Known.{AreApart, AreRootsKnown, facts_from, greatest_known, node_facts}
 use Rattle.segment.specs.declared.segments.Seg.{Seg}
 use Rattle.segment.specs.Measure.{greatest_reading}
-use Rattle.segment.specs.Nodes.{IsForest, IsSeriesTree, known_root}
+use Rattle.segment.specs.Nodes.{known_root}
 use Rattle.segment.specs.Shape.{plan}
 use Rattle.segment.specs.Tree.{all_readings, root_of}
 use Rattle.segment.proofs.PartLaws.{root-true}
@@ -19,13 +19,11 @@ use Rattle.seg_tree.specs.Linked.{Places, tree_at}
 use Rattle.seg_tree.specs.Reached.{Reached, forest_of as reached_forest, len_of, lengths_of, roots_of}
 use Rattle.seg_tree.specs.Trees.{IsTreeAt, IsTreeOf, value_at, value_of}
 use Rattle.seg_tree.specs.declared.arena.Tree.{Tree}
-use Rattle.semantics.specs.Admission as admission
 use Rattle.semantics.specs.Admitted.{IsAdmitted}
 use Rattle.semantics.specs.Names.{same_name}
 use Rattle.semantics.specs.Term.{QueryTerm, number}
-use Rattle.store_file.specs.Added.{names_in}
 use Rattle.store_file.specs.Facts.{fact_in, facts_in}
-use Rattle.store_file.specs.StoreValue.{AreNames, Series, StoreValue, has_name, name_of}
+use Rattle.store_file.specs.StoreValue.{AreNames, has_name}
 use Rattle.store_file.specs.Stored.{AreOf, IsSound, StoreParts, series_of, store_value}
 use Rattle.store_file.specs.declared.store.Stored.{Stored}
 use Rattle.store_file.proofs.FactLaws.{greatest-none}

@@ -1,4 +1,4 @@
-use Rattle.std.proofs.Common.{◌≡◌, ◌∙◌, sym}
+use Rattle.std.proofs.Common.{◌∙◌, sym}
 use Rattle.sessions.specs.Kept.{reached_from}
 use Rattle.sessions.proofs.SessionLaws.{same_reached, still_tracks}
 use Rattle.sessions.proofs.session.expand.Goals as goal

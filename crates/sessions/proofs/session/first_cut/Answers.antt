@@ -1,7 +1,7 @@
 use Rattle.std.proofs.Common.{◌≡◌, ◌∙◌, Err, refl, sym, ap}
 use Rattle.descent.specs.Descents.{cut_of}
 use Rattle.expr.specs.Terms.{query_term_of}
-use Rattle.seg_tree.specs.Reached.{Reached, forest_of}
+use Rattle.seg_tree.specs.Reached.{forest_of}
 use Rattle.sessions.specs.Kept.{reached_from}
 use Rattle.sessions.proofs.SessionLaws.{means_own, same_reached, still_tracks}
 use Rattle.sessions.proofs.StoreNodes.{are_handed, handed_admitted, handed_all, handed_apart, handed_by, handed_known, handed_roots}

@@ -1,4 +1,4 @@
-use Rattle.std.proofs.Common.{◌≡◌, ◌∙◌, ℕ, map, sym, ap, subst}
+use Rattle.std.proofs.Common.{◌∙◌, ℕ, map, sym, ap, subst}
 use Rattle.descent.specs.Held.{CutView}
 use Rattle.expr.specs.Terms.{query_term_of}
 use Rattle.sessions.specs.Kept.{AreTracksIn, entry_tree, reached_from}

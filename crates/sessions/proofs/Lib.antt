@@ -2,6 +2,9 @@ pub mod AloneLaw
 pub mod EndLaw
 pub mod EventLaws
 pub mod HeldLaw
+pub mod HubLaws
+pub mod Later
+pub mod LiveLaws
 pub mod NameLaws
 pub mod QueryLaws
 pub mod ScriptLaws

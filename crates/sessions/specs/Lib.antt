@@ -1,8 +1,10 @@
 pub mod Alone
+pub mod Applied
 pub mod Cuts
 pub mod Events
 pub mod Hub
 pub mod Kept
+pub mod Places
 pub mod Queries
 pub mod Replies
 pub mod Script

@@ -22,6 +22,34 @@ pub(crate) fn number_on(n: u128, digits: &[u8], limit: u128) -> u128
     requires small { limit ≤ 2 ^ 127 }
     ensures { result ≡ min (number_on n digits.now) limit }
 {
+    if limit <= SHORT {
+        return u128::from(short_number_on(n as u64, digits, limit as u64));
+    }
+    long_number_on(n, digits, limit)
+}
+
+/// Up to this limit there is room for one more digit within 64 bits.
+const SHORT: u128 = 1 << 59;
+
+/// The same within 64 bits.
+fn short_number_on(n: u64, digits: &[u8], limit: u64) -> u64
+    requires start { n ≤ limit }
+    requires small { limit ≤ 2 ^ 59 }
+    ensures { result ≡ min (number_on n digits.now) limit }
+{
+    let mut number = n;
+    for digit in digits {
+        number = (10 * number + u64::from(digit.saturating_sub(b'0'))).min(limit);
+    }
+    number
+}
+
+/// The same within 128 bits.
+fn long_number_on(n: u128, digits: &[u8], limit: u128) -> u128
+    requires start { n ≤ limit }
+    requires small { limit ≤ 2 ^ 127 }
+    ensures { result ≡ min (number_on n digits.now) limit }
+{
     let mut number = n;
     for digit in digits {
         number = number

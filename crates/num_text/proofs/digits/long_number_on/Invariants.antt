@@ -1,6 +1,6 @@
 use Rattle.std.proofs.Common.{◌≡◌, min, take}
 use Rattle.semantics.specs.Numbers.{number_on}
-use Rattle.num_text.proofs.digits.number_on.Given as goal
+use Rattle.num_text.proofs.digits.long_number_on.Given as goal
 
 abbrev pub invariant-loop-digit : goal.invariant-loop-digit
 invariant-loop-digit l = l.number ≡ min (number_on l.n (take l.digit-index l.digits)) l.limit

@@ -2,6 +2,8 @@ ghost use Rattle.std.specs.Prelude.{◌≡◌, ◌≤◌, ◌+◌, ◌^◌, unsi
 ghost use Rattle.semantics.specs.Term.{base, times, sum, mul};
 ghost use Rattle.expr.specs.Terms.{query_term_of, term_of};
 
+mod frames;
+
 use super::*;
 use expr::{Bounds, Fact, Name, Query, Series, admit};
 use interval::Iv;

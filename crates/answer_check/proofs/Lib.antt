@@ -1,7 +1,12 @@
 pub mod Arrays
+pub mod Cuts
+pub mod FrameSteps
 pub mod Lists
 pub mod Plain
 pub mod ReadAgain
 pub mod RowSteps
+pub mod SoundCuts
 pub mod Spelled
 pub mod Texts
+pub mod Verdicts
+pub mod Walks

@@ -1,5 +1,6 @@
 pub mod Certificate
 pub mod Json
 pub mod Verdict
+pub mod Walked
 pub mod Worked
 pub mod Written

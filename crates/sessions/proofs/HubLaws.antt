@@ -1,11 +1,10 @@
 -- What the events of a hub do to its state.
-use Rattle.std.proofs.Common.{◌≡◌, ℕ, zero, suc, ◌+◌, ◌≤◌, ◌<◌, ◌⊎◌, ◌↔◌, Bool, true, false, cond, List, [], ◌∷◌, ◌++◌, length, length-set, set, get_or, get_or-set_same, Option, Some, None, Result, Ok, Err, is_some, replicate, ℤ, refl, sym, ap, ap₂, ◌∙◌, subst, arith, inl, inr}
+use Rattle.std.proofs.Common.{◌≡◌, ℕ, zero, suc, ◌+◌, ◌≤◌, ◌⊎◌, ◌↔◌, Bool, true, false, cond, List, [], ◌∷◌, ◌++◌, length, length-set, set, get_or, get_or-set_same, Option, Some, None, Result, Ok, Err, is_some, replicate, ℤ, refl, sym, ap, ap₂, ◌∙◌, subst, arith, inl, inr}
 use Rattle.std.specs.Prelude.{IfOk, IsErr}
-use Rattle.std.specs.List.{All, AllZip, flat_map}
+use Rattle.std.specs.List.{All, flat_map}
 use Rattle.std.specs.Option.{option_map, option_or}
 use Rattle.std.proofs.lemmas.List.{get_or_default, length-replicate, set-get_or}
-use Rattle.seg_tree.specs.declared.arena.Tree.{Tree}
-use Rattle.seg_tree.specs.Linked.{Extends, Places, IsUsed, held_at}
+use Rattle.seg_tree.specs.Linked.{Extends, Places, IsUsed}
 use Rattle.seg_tree.specs.Trees.{IsReached, IsTreeOf}
 use Rattle.semantics.specs.Term.{QueryTerm}
 use Rattle.sessions.specs.declared.events.Event.TheVariants.{Append}
@@ -14,13 +13,12 @@ use Rattle.sessions.specs.declared.replies.Reply.{Reply}
 use Rattle.sessions.specs.declared.replies.Reply.TheVariants as reply
 use Rattle.sessions.specs.Applied.{Does, IsRefused, StepsSlot, slot_reply}
 use Rattle.sessions.specs.Events.{last_slot}
-use Rattle.sessions.specs.Hub.{Session, HubState, Outcome, appends, cause_of, closes, grows, is_done, opened, opens, opens_by, outcome, plain_in, shown, shows, slot_at, stepped, steps}
+use Rattle.sessions.specs.Hub.{Session, HubState, Outcome, appends, cause_of, closes, grows, is_done, opened, opens, opens_by, outcome, plain_in, shows, slot_at, stepped, steps}
 use Rattle.sessions.specs.Kept.{Kept, HubView, IsHub, IsLive, Keeps, KeepsSlot, KeepSlots, StandsFor, is_full, live_trees, new_hub, trees_kept, trees_of}
-use Rattle.sessions.specs.Places.{HasFewTrees, KeepsNodes, KeepsUsed, hub_view}
+use Rattle.sessions.specs.Places.{HasFewTrees, KeepsNodes, hub_view}
 use Rattle.sessions.proofs.LiveLaws.{kept-few, kept-trees}
 use Rattle.sessions.proofs.Later.{reached-left, reached-parts, reached-right, slots-later}
 use Rattle.store_file.specs.Grown.{append_refusal, grown_length, grown_store, growth_refusal}
-use Rattle.store_file.specs.StoreValue.{StoreValue}
 use Rattle.store_file.specs.declared.adding.SeriesErr.{SeriesErr}
 use Rattle.store_file.specs.declared.adding.SeriesErr.TheVariants as refusal
 use Rattle.store_file.specs.Stored.{StoreParts, store_value}

@@ -1,20 +1,19 @@
 -- What a hub keeps lasts where the places that its trees reach keep their nodes.
-use Rattle.std.proofs.Common.{◌≡◌, ℕ, ◌+◌, ◌≤◌, ◌⊎◌, ◌↔◌, List, [], ◌∷◌, ◌++◌, map, Option, Some, None, refl, sym, ap, ap₂, ◌∙◌, subst, arith, inl, inr, unwrap_or}
-use Rattle.std.specs.List.{All, AllZip, flat_map}
+use Rattle.std.proofs.Common.{◌≡◌, ℕ, ◌⊎◌, List, [], ◌∷◌, ◌++◌, map, Option, Some, None, refl, sym, ap, ◌∙◌, subst, inl, inr, unwrap_or}
+use Rattle.std.specs.List.{All, flat_map}
 use Rattle.std.specs.Option.{option_map}
 use Rattle.std.proofs.lemmas.List.Elements.{All-nil, All-cons, All-head, All-tail}
 use Rattle.descent.specs.Held.{Held, IsTrackOf, StandsFor as StandsIn, place_of}
 use Rattle.descent.specs.Rows.{Track}
 use Rattle.segment.specs.Nodes.{Place, tree_in}
 use Rattle.segment.specs.Shape.{Plan, leaf, fork, plan}
-use Rattle.segment.specs.Tree.{SegTree, root_of, plan_of, IsPartOf}
-use Rattle.segment.specs.declared.segments.Seg.{Seg}
+use Rattle.segment.specs.Tree.{root_of, plan_of, IsPartOf}
 use Rattle.seg_tree.specs.declared.arena.Tree.{Tree}
 use Rattle.seg_tree.specs.declared.nodes.Node.{Node}
 use Rattle.seg_tree.specs.Linked.{Places, held_at, node_at, no_node, left_child, right_child, Reaches}
-use Rattle.seg_tree.specs.Reached.{Stands, lengths_of, roots_of, forest_of}
-use Rattle.seg_tree.specs.Trees.{IsReached, IsTreeOf, ReachesAt, value_of}
-use Rattle.seg_tree.proofs.SweepLaws.{KeepsReached, AreLeft, linked-kept, tree-kept, trees-left}
+use Rattle.seg_tree.specs.Reached.{Stands, lengths_of, roots_of}
+use Rattle.seg_tree.specs.Trees.{IsReached, IsTreeOf, ReachesAt}
+use Rattle.seg_tree.proofs.SweepLaws.{KeepsReached, linked-kept, tree-kept, trees-left}
 use Rattle.sessions.specs.Hub.{Session}
 use Rattle.sessions.specs.Kept.{Kept, Keeps, KeepsSlot, KeepSlots, AreTracksIn, reached_from, trees_kept}
 use Rattle.sessions.specs.Places.{KeepsNodes}

@@ -1,19 +1,17 @@
 -- The trees that are live, and what a sweep leaves.
-use Rattle.std.proofs.Common.{◌≡◌, ℕ, zero, suc, ◌+◌, ◌*◌, ◌≤◌, ◌<◌, ◌⊎◌, ◌↔◌, List, [], ◌∷◌, ◌++◌, length, map, drop, take, get_or, Option, Some, None, slice_get, refl, sym, ap, ap₂, ◌∙◌, subst, arith, inl, inr, append_assoc, append-nil, unwrap_or, length-append, length-drop}
-use Rattle.std.specs.List.{All, AllZip, flat_map}
-use Rattle.std.proofs.lemmas.List.{drop_all}
+use Rattle.std.proofs.Common.{◌≡◌, ℕ, zero, suc, ◌+◌, ◌*◌, ◌≤◌, ◌<◌, ◌↔◌, List, [], ◌∷◌, ◌++◌, length, map, drop, take, get_or, Option, Some, None, slice_get, refl, sym, ap, ap₂, ◌∙◌, arith, append_assoc, length-append, length-drop}
+use Rattle.std.specs.List.{All, flat_map}
 use Rattle.std.proofs.lemmas.List.Folds.{length-flat_map-take}
 use Rattle.std.proofs.lemmas.List.Elements.{All-nil, All-cons, All-head, All-tail, All-append}
 use Rattle.segment.specs.Tree.{SegTree}
 use Rattle.seg_tree.specs.declared.arena.Tree.{Tree}
-use Rattle.seg_tree.specs.declared.nodes.Node.{Node}
 use Rattle.seg_tree.specs.Held.{Held}
-use Rattle.seg_tree.specs.Linked.{Places, IsUsed, held_at, node_at, used}
+use Rattle.seg_tree.specs.Linked.{Places, IsUsed, held_at, used}
 use Rattle.seg_tree.specs.Trees.{IsReached, IsTreeOf, value_of}
-use Rattle.seg_tree.proofs.SweepLaws.{AreLeft, trees-left}
+use Rattle.seg_tree.proofs.SweepLaws.{trees-left}
 use Rattle.sessions.specs.Hub.{Session}
-use Rattle.sessions.specs.Kept.{Kept, HubView, Keeps, KeepsSlot, KeepSlots, IsLive, entry_tree, live_trees, trees_kept, trees_of}
-use Rattle.sessions.specs.Places.{HasFewTrees, IsLeftOf, KeepsNodes, KeepsUsed, hub_view}
+use Rattle.sessions.specs.Kept.{Kept, KeepsSlot, KeepSlots, IsLive, entry_tree, live_trees, trees_kept, trees_of}
+use Rattle.sessions.specs.Places.{HasFewTrees, IsLeftOf, KeepsNodes, hub_view}
 use Rattle.sessions.proofs.Later.{reached-after, reached-before, reached-left}
 use Rattle.store_file.specs.Stored.{AreOf, IsSound, StoreParts, series_of, store_value}
 use Rattle.store_file.specs.StoreValue.{Series, StoreValue}

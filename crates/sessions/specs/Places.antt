@@ -1,6 +1,6 @@
 -- Which places of an arena a hub keeps, and what a call does to those.
-use Rattle.std.specs.Prelude.{◌≡◌, ℕ, ◌+◌, ◌≤◌, List, length, Option}
-use Rattle.seg_tree.specs.Linked.{IsUsed, Places, held_at, used}
+use Rattle.std.specs.Prelude.{◌≡◌, ℕ, ◌≤◌, List, length, Option}
+use Rattle.seg_tree.specs.Linked.{IsUsed, Places, held_at}
 use Rattle.seg_tree.specs.Trees.{IsReached}
 use Rattle.seg_tree.specs.declared.arena.Tree.{Tree}
 use Rattle.sessions.specs.Kept.{Kept, HubView, trees_kept}

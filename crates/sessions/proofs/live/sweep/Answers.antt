@@ -1,6 +1,5 @@
-use Rattle.std.proofs.Common.{◌≤◌, ◌≡◌, List, ap, subst, sym, ◌∙◌}
+use Rattle.std.proofs.Common.{◌≤◌, ap, subst, sym, ◌∙◌}
 use Rattle.std.specs.List.{All, flat_map}
-use Rattle.seg_tree.specs.declared.arena.Tree.{Tree}
 use Rattle.seg_tree.specs.Linked.{used}
 use Rattle.seg_tree.specs.Trees.{IsTreeOf}
 use Rattle.sessions.specs.Kept.{live_trees, trees_kept}

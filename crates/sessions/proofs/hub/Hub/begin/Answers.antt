@@ -6,7 +6,7 @@ use Rattle.sessions.specs.Applied.{Does}
 use Rattle.sessions.specs.Hub.{opens_by}
 use Rattle.sessions.specs.Kept.{HubView}
 use Rattle.sessions.specs.Places.{hub_view}
-use Rattle.sessions.proofs.HubLaws.{Opens, open-does, open-hub, with_kept}
+use Rattle.sessions.proofs.HubLaws.{open-does, open-hub, with_kept}
 use Rattle.store_file.specs.Facts.{facts_in}
 use Rattle.store_file.specs.Stored.{store_value}
 use Rattle.sessions.proofs.hub.Hub.begin.Goals as goal

@@ -1,12 +1,12 @@
-use Rattle.std.proofs.Common.{◌≡◌, Bool, List, None, Option, ap, false, get_or, is_some, set, subst, sym, true, ◌∙◌}
+use Rattle.std.proofs.Common.{◌≡◌, List, None, Option, ap, get_or, is_some, set, subst, sym, true, ◌∙◌}
 use Rattle.std.specs.Prelude.{not}
 use Rattle.std.specs.List.{All, flat_map}
 use Rattle.seg_tree.specs.Trees.{IsTreeOf}
 use Rattle.sessions.specs.declared.replies.Reply.TheVariants as reply
 use Rattle.sessions.specs.Applied.{Does}
 use Rattle.sessions.specs.Hub.{closes, slot_at}
-use Rattle.sessions.specs.Kept.{HubView, IsLive, Kept, live_trees, trees_kept}
-use Rattle.sessions.specs.Places.{HasFewTrees, KeepsNodes, hub_view}
+use Rattle.sessions.specs.Kept.{HubView, Kept, trees_kept}
+use Rattle.sessions.specs.Places.{HasFewTrees, hub_view}
 use Rattle.sessions.proofs.HubLaws.{Sweeps, can-close, close-does, close-hub, free-does, none-free, read-slot}
 use Rattle.sessions.proofs.hub.Hub.close.Goals as goal
 

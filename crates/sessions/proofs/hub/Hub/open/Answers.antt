@@ -1,4 +1,4 @@
-use Rattle.std.proofs.Common.{◌≡◌, None, Ok, Err, ap, get_or, is_some, subst, sym, true, false, ◌∙◌}
+use Rattle.std.proofs.Common.{◌≡◌, None, Ok, Err, ap, get_or, is_some, subst, sym, true, ◌∙◌}
 use Rattle.std.proofs.lemmas.Result.{IfOk-weaker}
 use Rattle.expr.specs.Terms.{query_term_of}
 use Rattle.sessions.specs.declared.replies.Reply.TheVariants as reply

@@ -1,7 +1,7 @@
-use Rattle.std.proofs.Common.{Option, set, subst, ◌∙◌}
+use Rattle.std.proofs.Common.{subst, ◌∙◌}
 use Rattle.sessions.specs.Applied.{Does, StepsSlot}
 use Rattle.sessions.specs.Hub.{slot_at, steps}
-use Rattle.sessions.specs.Kept.{HubView, Kept}
+use Rattle.sessions.specs.Kept.{HubView}
 use Rattle.sessions.specs.Places.{hub_view}
 use Rattle.sessions.proofs.HubLaws.{Tells, read-set, read-slot, slot-stands, step-does, step-hub, step-refused, with_kept}
 use Rattle.sessions.proofs.hub.Hub.step.Goals as goal

@@ -1,6 +1,8 @@
+pub mod Answering
 pub mod Arrays
 pub mod Cuts
 pub mod FrameSteps
+pub mod Holding
 pub mod Lists
 pub mod Plain
 pub mod ReadAgain

@@ -16,7 +16,7 @@ mod walking;
 mod writing;
 
 pub use certificate::{Cert, CertErr, CertKey, CertList, CertLists, Triples};
-pub use laws::verdicts_are_worked;
+pub use laws::{answers_hold, holding_proves, verdicts_are_worked};
 pub use reading::read_cert;
 pub use verdict::{Verdict, VerifyErr};
 pub use verifying::verify;

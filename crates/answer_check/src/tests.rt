@@ -11,6 +11,10 @@ use std::alloc::Global;
 use std::test::Fail;
 use store_file::Store;
 
+/// The certificate of the sum of all readings at a budget of 319.
+const WRITTEN: &str =
+    r#"{"budget":"319","cut":[["x",[[0,16,1],[16,16,0]]]],"hi":"240","lo":"80","query":"sum(x,0,32)"}"#;
+
 /// Whether all are readings.
 fn are_readings(xs: &[i32]) -> bool
     ensures { result ≡ true → AreReadings xs.now }
@@ -72,48 +76,40 @@ fn writes_a_certificate(rt: HostRuntime) -> Result<(), Fail> {
     Ok(())
 }
 
-/// The verdict on the certificate that a text spells.
-fn verdict_on(alloc: Global, text: &[u8]) -> Result<Verdict, Fail> {
+/// The verdict on a certificate of the sum of all readings.
+fn verdict_on(alloc: Global, budget: u128, cut: &str, hi: i128, lo: i128) -> Result<Verdict, Fail> {
+    let text = format!(in alloc;
+        r#"{{"budget":"{budget}","cut":[{cut}],"hi":"{hi}","lo":"{lo}","query":"sum(x,0,32)"}}"#
+    ).map_err(|_| "a text")?;
     let store = turns(alloc)?;
-    let cert = read_cert(alloc, text).map_err(|_| "a certificate")?;
+    let cert = read_cert(alloc, text.as_bytes()).map_err(|_| "a certificate")?;
     let verdict = verify(alloc, &store, &cert).map_err(|_| "a verdict")?;
     Ok(verdict)
 }
 
 #[test]
-fn checks_certificates(rt: HostRuntime) -> Result<(), Fail> {
+fn checks_what_is_written(rt: HostRuntime) -> Result<(), Fail> {
+    let alloc = rt.alloc();
+    let store = turns(alloc)?;
+    let cert = read_cert(alloc, WRITTEN.as_bytes()).map_err(|_| "a certificate")?;
+    assert_eq!(rt; verify(alloc, &store, &cert), Ok(Verdict::Holds));
+    Ok(())
+}
+
+#[test]
+fn checks_what_was_changed(rt: HostRuntime) -> Result<(), Fail> {
     let proved = Iv::of(80, 240).ok_or("an interval")?;
-    for (text, want) in [
-        (
-            b"{\"budget\":\"319\",\"cut\":[[\"x\",[[0,16,1],[16,16,0]]]],\"hi\":\"240\",\"lo\":\"80\",\"query\":\"sum(x,0,32)\"}".as_slice(),
-            Verdict::Holds,
-        ),
-        (
-            b"{\"budget\":\"320\",\"cut\":[[\"x\",[[0,16,0],[16,16,0]]]],\"hi\":\"320\",\"lo\":\"0\",\"query\":\"sum(x,0,32)\"}".as_slice(),
-            Verdict::Holds,
-        ),
-        (
-            b"{\"budget\":\"319\",\"cut\":[[\"x\",[[0,16,1]]]],\"hi\":\"240\",\"lo\":\"80\",\"query\":\"sum(x,0,32)\"}".as_slice(),
-            Verdict::NotACut(0),
-        ),
-        (
-            b"{\"budget\":\"319\",\"cut\":[[\"x\",[[0,32,1]]]],\"hi\":\"240\",\"lo\":\"80\",\"query\":\"sum(x,0,32)\"}".as_slice(),
-            Verdict::NotACut(0),
-        ),
-        (
-            b"{\"budget\":\"319\",\"cut\":[[\"x\",[[0,16,1],[16,16,0]]],[\"x\",[]]],\"hi\":\"240\",\"lo\":\"80\",\"query\":\"sum(x,0,32)\"}".as_slice(),
-            Verdict::NotACut(1),
-        ),
-        (
-            b"{\"budget\":\"319\",\"cut\":[[\"x\",[[0,16,1],[16,16,0]]]],\"hi\":\"239\",\"lo\":\"80\",\"query\":\"sum(x,0,32)\"}".as_slice(),
-            Verdict::Escapes(proved),
-        ),
-        (
-            b"{\"budget\":\"159\",\"cut\":[[\"x\",[[0,16,1],[16,16,0]]]],\"hi\":\"240\",\"lo\":\"80\",\"query\":\"sum(x,0,32)\"}".as_slice(),
-            Verdict::Wide(160),
-        ),
+    let halves = r#"["x",[[0,16,1],[16,16,0]]]"#;
+    let twice = r#"["x",[[0,16,1],[16,16,0]]],["x",[]]"#;
+    for (budget, cut, hi, lo, want) in [
+        (320, r#"["x",[[0,16,0],[16,16,0]]]"#, 320, 0, Verdict::Holds),
+        (319, r#"["x",[[0,16,1]]]"#, 240, 80, Verdict::NotACut(0)),
+        (319, r#"["x",[[0,32,1]]]"#, 240, 80, Verdict::NotACut(0)),
+        (319, twice, 240, 80, Verdict::NotACut(1)),
+        (319, halves, 239, 80, Verdict::Escapes(proved)),
+        (159, halves, 240, 80, Verdict::Wide(160)),
     ] {
-        let verdict = verdict_on(rt.alloc(), text)?;
+        let verdict = verdict_on(rt.alloc(), budget, cut, hi, lo)?;
         assert_eq!(rt; verdict, want);
     }
     Ok(())
@@ -122,9 +118,7 @@ fn checks_certificates(rt: HostRuntime) -> Result<(), Fail> {
 #[test]
 fn refuses_texts(rt: HostRuntime) -> Result<(), Fail> {
     assert_eq!(rt; read_cert(rt.alloc(), b"[").err(), Some(CertErr::NotJson));
-    assert_eq!(rt;
-        read_cert(rt.alloc(), b"{}").err(),
-        Some(CertErr::Form(CertKey::Budget))
-    );
+    let none = read_cert(rt.alloc(), b"{}").err();
+    assert_eq!(rt; none, Some(CertErr::Form(CertKey::Budget)));
     Ok(())
 }

@@ -1,10 +1,10 @@
 -- What a descent answers over a store is certified.
-use Rattle.std.proofs.Common.{◌≡◌, ◌≢◌, ℕ, zero, suc, ◌+◌, ◌-◌, ◌*◌, ◌<◌, ◌≤◌, Bool, true, false, inl, inr, cond, ℤ, ◌≤ℤ◌, ◌&&◌, List, [], ◌∷◌, ◌++◌, length, map, drop, Option, Some, None, Result, Ok, Err, refl, sym, ap, ap₂, subst, ◌∙◌, arith, append-nil}
+use Rattle.std.proofs.Common.{◌≡◌, ℕ, zero, suc, ◌+◌, ◌-◌, ◌<◌, ◌≤◌, Bool, true, false, inl, inr, cond, ℤ, ◌&&◌, List, [], ◌∷◌, ◌++◌, length, map, drop, Option, Some, None, Result, Ok, refl, sym, ap, ap₂, subst, ◌∙◌, arith, append-nil}
 use Rattle.std.specs.Prelude.{◌==◌, ◌||◌, int_le, is_some, nat_lt, not, unwrap_or}
 use Rattle.std.specs.List.{list_any}
 use Rattle.std.specs.Option.{option_and_then, option_map}
 use Rattle.std.proofs.Math.Dec.{ltb}
-use Rattle.std.proofs.lemmas.Bool.{cases_Bool, cases_lt, eq-eqb, eqb-true, ne_eqb, lt-ltb, le-ltb}
+use Rattle.std.proofs.lemmas.Bool.{cases_Bool, eq-eqb, ne_eqb, lt-ltb, le-ltb}
 use Rattle.std.proofs.lemmas.Int.{ints}
 use Rattle.std.proofs.lemmas.List.Folds.{list_any-append}
 use Rattle.std.proofs.lemmas.Slice.Eq.{bytes_eq-Decides}
@@ -13,31 +13,28 @@ use Rattle.semantics.specs.Names.{same_name}
 use Rattle.semantics.specs.Plain.{plain}
 use Rattle.semantics.specs.Term.{QueryTerm, Term, number, sum, variance, covariance, add, sub, mul}
 use Rattle.interval.specs.Interval.{Interval}
-use Rattle.segment.specs.declared.segments.Seg.{Seg}
 use Rattle.segment.specs.Nodes.{Forest, IsSeriesTree, tree_in}
-use Rattle.segment.specs.Shape.{IsSplit, plan}
+use Rattle.segment.specs.Shape.{plan}
 use Rattle.segment.specs.Tree.{SegTree, tip, node, all_readings, plan_of, readings_of, root_of, IsPartOf, IsTreeOver}
 use Rattle.segment.proofs.PartLaws.{part_left, part_right, part_self, span-plan, start-plan}
 use Rattle.expr_parse.specs.Canonical.{canonical_text}
 use Rattle.expr_parse.specs.Parsed.{parsed}
 use Rattle.store_file.specs.Added.{names_in}
 use Rattle.store_file.specs.Facts.{facts_in}
-use Rattle.store_file.specs.StoreValue.{IsStoreValue, StoreValue}
+use Rattle.store_file.specs.StoreValue.{StoreValue}
 use Rattle.descent.specs.declared.Pick.{Pick}
-use Rattle.descent.specs.declared.descents.Answer.{Answer}
 use Rattle.descent.specs.declared.rows.CutRow.{CutRow}
 use Rattle.descent.specs.Choice.{choice}
-use Rattle.descent.specs.Descents.{Node, Nodes, after, below, closed, cut_of, expanded, expanded_if, expanded_row, expanded_track, is_at, next, opened, root_nodes, root_track, roots, roots_from, row_of}
-use Rattle.descent.specs.Rows.{Row, Track, with_rows}
+use Rattle.descent.specs.Descents.{Node, Nodes, after, below, cut_of, expanded, expanded_if, expanded_row, expanded_track, is_at, next, root_nodes, root_track, roots, roots_from, row_of}
+use Rattle.descent.specs.Rows.{Row, Track}
 use Rattle.descent.specs.Sums.{IsWithin, interval_in, width_of}
-use Rattle.descent.specs.Told.{Tells, told, told_row}
+use Rattle.descent.specs.Told.{told, told_row}
 use Rattle.answer_check.specs.declared.certificate.Cert.{Cert}
 use Rattle.answer_check.specs.declared.certificate.CertList.{CertList}
-use Rattle.answer_check.specs.declared.verdict.Verdict.{Verdict}
 use Rattle.answer_check.specs.declared.verdict.Verdict.TheVariants.{Holds, Escapes, Wide}
 use Rattle.answer_check.specs.Certificate.{Triple, certificate_for, lists_for, rows_for}
 use Rattle.answer_check.specs.Laws.{AnswersHold}
-use Rattle.answer_check.specs.Verdict.{and_then, answer_of, as_node, before, cut_by, cut_from, forest_of, has_range, interval_of, is_inside, judged, judged_over, no_interval, node_for, nodes_from, nodes_of, part_with, plain_by, plain_in, stated, track_by, unless_refused, verdict_for, verdict_of, with_nodes}
+use Rattle.answer_check.specs.Verdict.{and_then, answer_of, as_node, before, cut_by, cut_from, forest_of, has_range, interval_of, is_inside, judged, judged_over, no_interval, node_for, nodes_from, nodes_of, part_with, plain_by, plain_in, stated, track_by, unless_refused, verdict_for, with_nodes}
 use Rattle.answer_check.proofs.SoundCuts.{AreTrees, trees-each}
 use Rattle.answer_check.proofs.Walks.{part-here, part-node, plans-below}
 

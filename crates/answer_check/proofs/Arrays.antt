@@ -4,11 +4,8 @@ use Rattle.std.proofs.lemmas.List.{get_or-map, length-map, map-append}
 use Rattle.serde_json.specs.View.{items_view}
 use Rattle.serde_json.specs.declared.value.Value.{Value}
 use Rattle.serde_json.specs.Data.{Data, Items}
-use Rattle.serde_json.specs.Find.{as_array}
 use Rattle.serde_json.specs.View.{view}
-use Rattle.answer_check.specs.declared.certificate.CertList.{CertList}
-use Rattle.answer_check.specs.Certificate.{Triple}
-use Rattle.answer_check.specs.Json.{data_in, each, pair_of_items, row_of, row_of_items, rows_of}
+use Rattle.answer_check.specs.Json.{data_in, each, pair_of_items, row_of_items}
 use Rattle.answer_check.proofs.Lists.{next_taken}
 use Rattle.answer_check.proofs.ReadAgain.{data_of_items, each_more}
 

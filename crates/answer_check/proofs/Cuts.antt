@@ -1,5 +1,5 @@
 -- The rows of a series, one after the other.
-use Rattle.std.proofs.Common.{◌≡◌, ℕ, zero, suc, ◌+◌, ◌-◌, ◌*◌, ◌^◌, ◌<◌, ◌≤◌, cond, Bool, true, false, inl, inr, ℤ, pos, unsigned_abs, List, [], ◌∷◌, ◌++◌, length, map, take, drop, get_or, Option, Some, None, Vec, Global, refl, sym, ap, ap₂, subst, ◌∙◌, arith, append_assoc, append-nil, take_all}
+use Rattle.std.proofs.Common.{◌≡◌, ℕ, zero, suc, ◌+◌, ◌-◌, ◌<◌, ◌≤◌, cond, Bool, true, false, inl, inr, ℤ, unsigned_abs, List, [], ◌∷◌, ◌++◌, length, map, take, drop, get_or, Option, Some, None, Vec, Global, refl, sym, ap, ap₂, subst, ◌∙◌, arith, append_assoc, append-nil, take_all}
 use Rattle.std.specs.Prelude.{◌==◌, IfSome}
 use Rattle.std.specs.List.{All}
 use Rattle.std.specs.Option.{option_and_then, option_map}
@@ -10,7 +10,7 @@ use Rattle.std.proofs.Math.Seq.{drop-cons}
 use Rattle.semantics.specs.Readings.{reading}
 use Rattle.segment.specs.declared.segments.Seg.{Seg}
 use Rattle.segment.specs.Measure.{greatest_reading, unit_seg}
-use Rattle.segment.specs.Shape.{Plan, Range, leaf, fork, plan}
+use Rattle.segment.specs.Shape.{Range, leaf, fork, plan}
 use Rattle.segment.specs.Tree.{SegTree, tip, node, readings_of, root_of, plan_of, IsPartOf, IsTreeOver}
 use Rattle.segment.proofs.PartLaws.{part-over, root-true, span-plan}
 use Rattle.segment.proofs.SanityLaws.{magnitude-le, greatest_reading-part}
@@ -19,7 +19,7 @@ use Rattle.bounds.specs.Segments.{TouchFrom}
 use Rattle.error_prop.specs.Entries.{Touches}
 use Rattle.descent.specs.Below.{readings_in}
 use Rattle.descent.specs.Descents.{Node, closed, opened, row_of}
-use Rattle.descent.specs.Rows.{Row, segs_of_row, segs_of_rows, units}
+use Rattle.descent.specs.Rows.{segs_of_row, units}
 use Rattle.descent.specs.Sound.{AreSmall, IsSoundRow, seg_of}
 use Rattle.descent.proofs.SoundLaws.{rows-touch}
 use Rattle.descent.proofs.SoundSteps.{are-small}

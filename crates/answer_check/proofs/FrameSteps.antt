@@ -1,11 +1,10 @@
 -- Series that are added to a frame one after the other.
-use Rattle.std.proofs.Common.{◌≡◌, ℕ, zero, suc, ◌+◌, ◌<◌, ◌≤◌, cond, Bool, true, false, List, [], ◌∷◌, ◌++◌, length, map, take, drop, get_or, Option, Some, None, Result, Ok, Err, refl, sym, ap, ap₂, subst, ◌∙◌, arith, append_assoc, append-nil}
+use Rattle.std.proofs.Common.{◌≡◌, ℕ, zero, suc, ◌+◌, ◌<◌, ◌≤◌, Bool, true, false, List, [], ◌∷◌, ◌++◌, length, map, take, drop, get_or, Option, Some, None, Result, Ok, Err, refl, sym, ap, ap₂, subst, ◌∙◌, arith, append_assoc, append-nil}
 use Rattle.std.specs.List.{All, list_any}
 use Rattle.std.specs.Option.{option_map}
-use Rattle.std.proofs.lemmas.List.{drop_all, map-append, take_more}
-use Rattle.std.proofs.lemmas.List.Elements.{All-nil, All-cons, All-head, All-tail}
+use Rattle.std.proofs.lemmas.List.{drop_all, take_more}
+use Rattle.std.proofs.lemmas.List.Elements.{All-head, All-tail}
 use Rattle.std.proofs.lemmas.Slice.Eq.{bytes_eq-Decides}
-use Rattle.std.proofs.Math.Seq.{drop-cons}
 use Rattle.semantics.specs.Admission.{query_names}
 use Rattle.semantics.specs.Names.{same_name}
 use Rattle.semantics.specs.Term.{QueryTerm}
@@ -15,10 +14,9 @@ use Rattle.segment.specs.Tree.{SegTree}
 use Rattle.bounds.specs.Cut.{Entry, IsNew}
 use Rattle.bounds.specs.Segments.{TouchFrom}
 use Rattle.error_prop.specs.Entries.{Touches, end_from, last_end, pushed}
-use Rattle.error_prop.proofs.FrameLaws.{touch-end}
 use Rattle.seg_tree.specs.Linked.{Places}
 use Rattle.seg_tree.specs.Trees.{value_of}
-use Rattle.store_file.specs.StoreValue.{AreNames, Series, name_of}
+use Rattle.store_file.specs.StoreValue.{AreNames, name_of}
 use Rattle.store_file.specs.Stored.{AreOf, series_of}
 use Rattle.store_file.specs.declared.store.Stored.{Stored}
 use Rattle.store_file.proofs.StoredLaws.{names-series}

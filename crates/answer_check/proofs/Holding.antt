@@ -1,5 +1,5 @@
 -- A certificate that holds proves what it states.
-use Rattle.std.proofs.Common.{◌≡◌, ℕ, ◌+◌, ◌≤◌, Bool, true, false, inl, inr, cond, ℤ, ◌≤ℤ◌, ◌&&◌, List, [], ◌∷◌, ◌++◌, length, map, drop, Option, Some, None, Result, Ok, Err, refl, sym, ap, ap₂, subst, ◌∙◌, arith, append-nil}
+use Rattle.std.proofs.Common.{◌≡◌, ℕ, ◌+◌, Bool, true, false, inl, inr, cond, ℤ, ◌≤ℤ◌, ◌&&◌, List, [], ◌∷◌, length, map, drop, Option, Some, None, Result, Ok, Err, refl, sym, ap, subst, ◌∙◌, arith}
 use Rattle.std.specs.Prelude.{IsSomeAnd, int_le, nat_lt, unwrap_or}
 use Rattle.std.specs.List.{list_any}
 use Rattle.std.proofs.lemmas.Bool.{cases_Bool, ltb-false}
@@ -25,18 +25,16 @@ use Rattle.store_file.specs.StoreValue.{IsStoreValue, StoreValue}
 use Rattle.descent.specs.Below.{readings_in}
 use Rattle.descent.specs.Choice.{Has}
 use Rattle.descent.specs.Descents.{Node, Nodes, cut_of, row_of}
-use Rattle.descent.specs.Laws.{stored, stored_from}
+use Rattle.descent.specs.Laws.{stored_from}
 use Rattle.descent.specs.Rows.{Track, entries, segs_of_rows}
 use Rattle.descent.specs.Sums.{interval_in, width_of}
 use Rattle.descent.proofs.Admits.{each-sum, named-any}
-use Rattle.descent.proofs.Truth.{AreTrueFrom, rows_right}
+use Rattle.descent.proofs.Truth.{rows_right}
 use Rattle.answer_check.specs.declared.certificate.Cert.{Cert}
 use Rattle.answer_check.specs.declared.certificate.CertList.{CertList}
-use Rattle.answer_check.specs.declared.verdict.Verdict.{Verdict}
-use Rattle.answer_check.specs.declared.verdict.Verdict.TheVariants.{Holds, NotACut, Escapes, Wide}
-use Rattle.answer_check.specs.declared.verdict.VerifyErr.{VerifyErr}
+use Rattle.answer_check.specs.declared.verdict.Verdict.TheVariants.{Holds, Escapes, Wide}
 use Rattle.answer_check.specs.Certificate.{Triple}
-use Rattle.answer_check.specs.Laws.{IsProved, HoldingProves, readings_under}
+use Rattle.answer_check.specs.Laws.{HoldingProves, readings_under}
 use Rattle.answer_check.specs.Verdict.{answer_of, cut_by, cut_from, forest_of, interval_of, is_inside, judged, judged_over, no_interval, nodes_of, plain_by, plain_in, stated, unless_refused, verdict_for, verdict_of}
 use Rattle.answer_check.proofs.Cuts.{nodes-cut}
 use Rattle.answer_check.proofs.SoundCuts.{AreTrees, IsTrackFor, cut-next, none-last, none-of, track-true, trees-each}

@@ -10,7 +10,7 @@ use Rattle.serde_json.specs.View.{view}
 use Rattle.serde_json.specs.declared.value.Value.{Value}
 use Rattle.descent.specs.declared.rows.CutRow.{CutRow}
 use Rattle.answer_check.specs.declared.certificate.CertList.{CertList}
-use Rattle.answer_check.specs.Certificate.{Triple, lists_for, rows_for}
+use Rattle.answer_check.specs.Certificate.{lists_for, rows_for}
 
 pub next_taken : {X : Type 0} (xs : List X) (k : ℕ) (x : X) → k < length xs → x ≡ get_or xs k x → take (k + 1) xs ≡ take k xs ++ x ∷ []
 next_taken xs k x lt e = take_more xs k x lt ∙ ap (λ y. take k xs ++ y ∷ []) (sym e)

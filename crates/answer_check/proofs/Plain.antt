@@ -1,10 +1,9 @@
 -- Bytes of names, numbers and queries: JSON writes each as itself.
 use Rattle.std.proofs.Common.{◌≡◌, ◌<◌, ◌≤◌, ◌&&◌, ℕ, ℤ, pos, Bool, true, false, List, [], ◌∷◌, length, refl, arith}
 use Rattle.std.specs.Prelude.{nat_le, not}
-use Rattle.std.specs.Char.{is_ascii_alphabetic, is_ascii_digit}
 use Rattle.std.specs.Fmt.{decimal, signed_decimal}
 use Rattle.std.specs.List.{All, list_all}
-use Rattle.std.specs.Str.{IsAscii, is_utf8}
+use Rattle.std.specs.Str.{IsAscii}
 use Rattle.std.proofs.lemmas.Bool.Decides.{nat_tests}
 use Rattle.std.proofs.lemmas.List.Elements.{All-nil, All-cons}
 use Rattle.std.proofs.lemmas.Str.Ascii.{IsAscii-from_all}
@@ -13,7 +12,6 @@ use Rattle.semantics.specs.Most.{most_number, most_word}
 use Rattle.semantics.specs.Names.{begins_with_letter, is_name, is_reserved, is_word_byte}
 use Rattle.semantics.specs.Term.{number}
 use Rattle.expr_parse.specs.Printed.{IsMachineNumber, is_query_byte}
-use Rattle.expr_parse.specs.Tokens.{is_sign}
 use Rattle.expr_parse.proofs.CanonicalBytes.{canonical_bytes}
 
 -- a byte of a query is written as itself

@@ -1,8 +1,8 @@
 -- A certificate that is written is read again.
-use Rattle.std.proofs.Common.{◌≡◌, ◌≤◌, ◌<◌, ◌^◌, ℕ, ℤ, pos, suc, Bool, false, List, [], ◌∷◌, ◌++◌, map, true, refl, sym, ap, ◌∙◌, arith}
-use Rattle.std.specs.Prelude.{Option, Some, None, Ok, codes, decimal, option_map}
+use Rattle.std.proofs.Common.{◌≡◌, ◌<◌, ◌^◌, ℕ, pos, suc, Bool, false, List, [], ◌∷◌, ◌++◌, map, true, refl, sym, ap, ◌∙◌, arith}
+use Rattle.std.specs.Prelude.{Option, Some, None, Ok, option_map}
 use Rattle.std.specs.List.{All}
-use Rattle.std.specs.Str.{IsUtf8, is_utf8}
+use Rattle.std.specs.Str.{IsUtf8}
 use Rattle.std.proofs.lemmas.Bool.{lt-ltb}
 use Rattle.std.proofs.lemmas.List.{map-append}
 use Rattle.std.proofs.lemmas.Str.{is_utf8-from_IsUtf8}
@@ -13,7 +13,7 @@ use Rattle.serde_json.specs.View.{items_of}
 use Rattle.answer_check.specs.declared.certificate.Cert.{Cert}
 use Rattle.answer_check.specs.declared.certificate.CertList.{CertList}
 use Rattle.answer_check.specs.Certificate.{Triple}
-use Rattle.answer_check.specs.Json.{cert_data, certificate_in, certificate_of, cut_under, data_in, each, json_in, list_data, list_of, number_under, row_data, row_of}
+use Rattle.answer_check.specs.Json.{cert_data, certificate_in, certificate_of, data_in, each, list_data, list_of, row_data, row_of}
 use Rattle.answer_check.specs.Written.{IsReadAgain, IsWritten}
 
 pub first_of : {X : Type 0} (P : X → Type 0) (x : X) (xs : List X) → All P (x ∷ xs) → P x

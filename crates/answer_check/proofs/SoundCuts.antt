@@ -1,12 +1,12 @@
 -- The cut of the lists of a certificate is sound, and its segments are true.
-use Rattle.std.proofs.Common.{◌≡◌, ℕ, zero, suc, ◌+◌, ◌<◌, ◌≤◌, ◌^◌, ◌⊎◌, cond, Bool, true, false, inl, inr, List, [], ◌∷◌, ◌++◌, length, map, drop, get_or, Option, Some, None, Result, Ok, Err, refl, sym, ap, ap₂, subst, ◌∙◌, arith}
+use Rattle.std.proofs.Common.{◌≡◌, ℕ, zero, suc, ◌+◌, ◌≤◌, ◌⊎◌, cond, Bool, true, false, inl, inr, List, [], ◌∷◌, length, map, drop, get_or, Option, Some, None, Result, Ok, Err, refl, sym, ap, ap₂, subst, ◌∙◌, arith}
 use Rattle.std.specs.Prelude.{◌||◌}
 use Rattle.std.specs.List.{All, list_any}
-use Rattle.std.specs.Option.{option_map, option_map_or}
+use Rattle.std.specs.Option.{option_map}
 use Rattle.std.proofs.lemmas.Bool.{cases_Bool}
 use Rattle.std.proofs.lemmas.List.{length-map}
 use Rattle.std.proofs.lemmas.List.Elements.{All-nil, All-cons, All-head, All-tail}
-use Rattle.semantics.specs.Admission.{Fact, fact_at, query_names}
+use Rattle.semantics.specs.Admission.{Fact, query_names}
 use Rattle.semantics.specs.Admitted.{IsAdmitted}
 use Rattle.semantics.specs.Names.{same_name}
 use Rattle.semantics.specs.Plain.{IsPlain}
@@ -14,7 +14,7 @@ use Rattle.semantics.specs.Term.{QueryTerm}
 use Rattle.segment.specs.declared.segments.Seg.{Seg}
 use Rattle.segment.specs.Measure.{greatest_reading}
 use Rattle.segment.specs.Nodes.{Forest, IsSeriesTree, tree_in}
-use Rattle.segment.specs.Tree.{SegTree, all_readings, readings_of, root_of, IsTreeOver}
+use Rattle.segment.specs.Tree.{SegTree, all_readings, readings_of}
 use Rattle.segment.proofs.PartLaws.{root-true}
 use Rattle.bounds.specs.Cut.{Entry}
 use Rattle.interval.specs.Interval.{Interval}
@@ -26,15 +26,15 @@ use Rattle.store_file.specs.StoreValue.{AreNames, EachTree, IsStoreValue, Series
 use Rattle.descent.specs.Choice.{Has}
 use Rattle.descent.specs.Descents.{Node, Nodes, cut_of, greatest_of, root_track, row_of}
 use Rattle.descent.specs.Known.{AreApart, fact_of, facts_in as cut_facts}
-use Rattle.descent.specs.Rows.{Row, Track, Cut, entries, with_rows}
-use Rattle.descent.specs.Sound.{IsSoundRow, IsSoundTrack, IsSound, IsFrameFor, name_of as track_name, seg_of}
+use Rattle.descent.specs.Rows.{Track, with_rows}
+use Rattle.descent.specs.Sound.{IsSoundRow, IsSoundTrack, IsSound, name_of as track_name}
 use Rattle.descent.proofs.Admits.{SayTheSame, admitted-too, each-sum, named-any}
 use Rattle.descent.proofs.SoundLaws.{cuts_are_frames}
 use Rattle.descent.proofs.Truth.{AreTrueFrom, AreTrueTracks, is-there}
 use Rattle.answer_check.specs.declared.certificate.CertList.{CertList}
 use Rattle.answer_check.specs.Certificate.{Triple}
-use Rattle.answer_check.specs.Verdict.{and_then, cut_from, nodes_from, nodes_of, track_by, tree_of, with_nodes}
-use Rattle.answer_check.specs.Walked.{cut_in, IsFrameOf}
+use Rattle.answer_check.specs.Verdict.{and_then, cut_from, nodes_of, track_by, tree_of, with_nodes}
+use Rattle.answer_check.specs.Walked.{IsFrameOf}
 use Rattle.answer_check.proofs.Cuts.{nodes-cut}
 
 -- ---- the track of a series

@@ -1,19 +1,18 @@
 -- The compact text of a certificate's value is the certificate's text.
-use Rattle.std.proofs.Common.{◌≡◌, ◌≤◌, ℕ, suc, List, [], ◌∷◌, ◌++◌, drop, map, flat_map, true, false, refl, sym, ap, ◌∙◌, arith}
+use Rattle.std.proofs.Common.{◌≡◌, ◌≤◌, ℕ, List, [], ◌∷◌, ◌++◌, drop, map, flat_map, true, false, refl, sym, ap, ◌∙◌, arith}
 use Rattle.std.specs.Prelude.{codes, decimal}
 use Rattle.std.specs.Fmt.{signed_decimal}
-use Rattle.std.specs.List.{All, list_all}
+use Rattle.std.specs.List.{All}
 use Rattle.std.proofs.lemmas.List.{append_assoc}
 use Rattle.std.proofs.Math.Nat.{max-le}
-use Rattle.json.specs.Print.{escape, escape_byte, quoted}
+use Rattle.json.specs.Print.{escape_byte}
 use Rattle.serde_json.specs.Data.{Data, depth, items_depth}
 use Rattle.serde_json.specs.Read.{max_depth}
 use Rattle.serde_json.specs.View.{items_of}
 use Rattle.serde_json.specs.Written.{compact_text, has_float, items_have_float, items_text}
-use Rattle.expr_parse.specs.Printed.{is_query_byte}
 use Rattle.answer_check.specs.declared.certificate.Cert.{Cert}
 use Rattle.answer_check.specs.declared.certificate.CertList.{CertList}
-use Rattle.answer_check.specs.Certificate.{Triple, cert_text, in_quotes, joined, list_text, row_text}
+use Rattle.answer_check.specs.Certificate.{Triple, cert_text, joined, list_text, row_text}
 use Rattle.answer_check.specs.Json.{cert_data, list_data, row_data}
 use Rattle.answer_check.specs.Written.{IsReadAgain, IsWritten}
 use Rattle.answer_check.proofs.ReadAgain.{first_of, others_of}

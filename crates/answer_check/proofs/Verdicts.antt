@@ -1,5 +1,5 @@
 -- The verdict, by what its steps find.
-use Rattle.std.proofs.Common.{◌≡◌, ◌∙◌, ◌⊎◌, inl, inr, ℕ, List, Some, Result, Ok, Err, sym, ap}
+use Rattle.std.proofs.Common.{◌≡◌, ◌∙◌, ◌⊎◌, inl, inr, ℕ, List, Some, Ok, Err, sym, ap}
 use Rattle.std.specs.Prelude.{unwrap_or}
 use Rattle.bounds.specs.Cut.{Entry}
 use Rattle.interval.specs.Interval.{Interval}
@@ -8,8 +8,6 @@ use Rattle.error_prop.specs.Queries.{interval_over}
 use Rattle.error_prop.specs.QueryOver.{sums_over}
 use Rattle.expr_parse.specs.Parsed.{parsed}
 use Rattle.store_file.specs.StoreValue.{Series, StoreValue}
-use Rattle.descent.specs.Descents.{cut_of}
-use Rattle.descent.specs.Sums.{interval_in}
 use Rattle.answer_check.specs.declared.certificate.Cert.{Cert}
 use Rattle.answer_check.specs.declared.verdict.Verdict.{Verdict}
 use Rattle.answer_check.specs.declared.verdict.Verdict.TheVariants.{NotACut}

@@ -1,20 +1,19 @@
 -- From a row to its node.
-use Rattle.std.proofs.Common.{◌≡◌, ℕ, ◌+◌, ◌-◌, ◌*◌, ◌^◌, ◌<◌, ◌≤◌, ◌⊎◌, ◌&&◌, cond, Bool, true, false, inl, inr, ℤ, unsigned_abs, List, [], ◌∷◌, ◌++◌, length, take, drop, Option, Some, None, refl, sym, ap, ap₂, subst, ◌∙◌, arith, take_all}
+use Rattle.std.proofs.Common.{◌≡◌, ℕ, ◌+◌, ◌-◌, ◌<◌, ◌≤◌, ◌⊎◌, ◌&&◌, cond, Bool, true, false, inl, inr, ℤ, List, take, drop, Some, None, refl, sym, ap, ap₂, subst, ◌∙◌}
 use Rattle.std.specs.Prelude.{◌==◌}
 use Rattle.std.proofs.Math.Dec.{ltb}
-use Rattle.std.specs.Option.{option_and_then, option_map}
+use Rattle.std.specs.Option.{option_and_then}
 use Rattle.std.proofs.lemmas.Bool.{cases_Bool, cases_lt, eqb-true, lt-ltb, le-ltb}
-use Rattle.semantics.specs.Readings.{reading}
 use Rattle.segment.specs.declared.segments.Seg.{Seg}
 use Rattle.segment.specs.Measure.{AreReadings}
-use Rattle.segment.specs.Shape.{Plan, Range, leaf, fork, plan, IsSplit}
+use Rattle.segment.specs.Shape.{leaf, fork, plan, IsSplit}
 use Rattle.segment.specs.Tree.{SegTree, tip, node, readings_of, root_of, plan_of, IsPartOf, IsTreeOver}
-use Rattle.segment.proofs.PartLaws.{part_self, part-readings, start-plan, span-plan}
+use Rattle.segment.proofs.PartLaws.{part-readings, start-plan, span-plan}
 use Rattle.segment.proofs.ReadingLaws.{AreReadings-drop, AreReadings-take}
 use Rattle.segment.proofs.ShapeLaws.{plan-leaf, plan-fork, split_exists}
-use Rattle.seg_tree.specs.Linked.{Places, IsLinked, node_at, tree_at, kept, left_child, right_child}
+use Rattle.seg_tree.specs.Linked.{Places, node_at, kept, left_child, right_child}
 use Rattle.seg_tree.proofs.Extended.{fork_at, leaf_at}
-use Rattle.descent.specs.Descents.{Node, closed, opened, row_of}
+use Rattle.descent.specs.Descents.{opened, row_of}
 use Rattle.descent.specs.Rows.{segs_given, segs_of_row, units}
 use Rattle.answer_check.specs.Certificate.{Triple}
 use Rattle.answer_check.specs.Verdict.{as_node, has_range, node_for, part_with}

@@ -1,5 +1,5 @@
 -- Nodes of an arena as nodes of a cut, and the frame of a cut.
-use Rattle.std.specs.Prelude.{◌≡◌, ℕ, List, map, Option, Result, Ok}
+use Rattle.std.specs.Prelude.{◌≡◌, ℕ, List, map, Result, Ok}
 use Rattle.semantics.specs.Term.{QueryTerm}
 use Rattle.segment.specs.declared.segments.Seg.{Seg}
 use Rattle.segment.specs.Shape.{plan}

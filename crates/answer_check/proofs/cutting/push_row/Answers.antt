@@ -1,4 +1,4 @@
-use Rattle.std.proofs.Common.{◌≡◌, ◌++◌, ◌∙◌, ap, arith, subst, sym, take}
+use Rattle.std.proofs.Common.{◌≡◌, ◌++◌, ◌∙◌, ap, subst, sym, take}
 use Rattle.std.specs.Result.{OnOk}
 use Rattle.segment.specs.Measure.{AreReadings}
 use Rattle.seg_tree.specs.Linked.{IsLeaf, kept}

@@ -1,4 +1,4 @@
-use Rattle.std.proofs.Common.{◌≡◌, ◌∙◌, ap, get_or, sym, take, take_all}
+use Rattle.std.proofs.Common.{◌∙◌, ap, get_or, sym, take, take_all}
 use Rattle.std.proofs.lemmas.List.{get_or_default}
 use Rattle.bounds.specs.Segments.{no_seg}
 use Rattle.error_prop.specs.Entries.{last_end, pushed}

@@ -1,4 +1,4 @@
-use Rattle.std.proofs.Common.{◌∙◌, ap, inl, inr, refl, sym}
+use Rattle.std.proofs.Common.{◌∙◌, ap, inl, inr, sym}
 use Rattle.std.specs.Prelude.{Some}
 use Rattle.answer_check.specs.Json.{list_of}
 use Rattle.answer_check.proofs.Arrays.{goes_on, stops}

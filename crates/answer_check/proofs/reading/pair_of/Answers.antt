@@ -1,4 +1,4 @@
-use Rattle.std.proofs.Common.{◌<◌, ◌≤◌, ◌∙◌, ap, arith, length, option_and_then, rules, sym}
+use Rattle.std.proofs.Common.{◌<◌, ◌≤◌, ◌∙◌, ap, length, option_and_then, rules, sym}
 use Rattle.answer_check.specs.Json.{pair_of_items}
 use Rattle.answer_check.proofs.Arrays.{long_pair, short_pair}
 use Rattle.answer_check.proofs.reading.pair_of.Goals as goal

@@ -1,10 +1,6 @@
-use Rattle.std.proofs.Common.{◌≡◌, Bool, true, false, cond, refl, sym}
-use Rattle.std.specs.Prelude.{None}
+use Rattle.std.proofs.Common.{refl}
 use Rattle.std.proofs.Common.{inr}
-use Rattle.std.specs.Str.{is_utf8}
-use Rattle.std.proofs.lemmas.Str.{IsUtf8-from_is_utf8, is_utf8-from_IsUtf8}
-use Rattle.serde_json.specs.Read.{read}
-use Rattle.answer_check.specs.Json.{json_in}
+use Rattle.std.proofs.lemmas.Str.{is_utf8-from_IsUtf8}
 use Rattle.answer_check.proofs.Spelled.{none_spelled}
 use Rattle.answer_check.proofs.reading.read_json.Goals as goal
 

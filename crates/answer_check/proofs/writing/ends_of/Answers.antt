@@ -1,4 +1,4 @@
-use Rattle.std.proofs.Common.{◌≤◌, arith, unsigned_abs}
+use Rattle.std.proofs.Common.{arith, unsigned_abs}
 use Rattle.std.proofs.Math.Nat.{le-max_left, le-max_right}
 use Rattle.answer_check.proofs.writing.ends_of.Goals as goal
 

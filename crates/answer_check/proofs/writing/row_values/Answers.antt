@@ -1,4 +1,4 @@
-use Rattle.std.proofs.Common.{◌≡◌, ◌<◌, ◌∙◌, ap, arith, length, map}
+use Rattle.std.proofs.Common.{◌<◌, ◌∙◌, ap, arith, length, map}
 use Rattle.serde_json.specs.View.{view}
 use Rattle.answer_check.proofs.RowSteps.{step_other, step_own}
 use Rattle.answer_check.proofs.writing.row_values.Goals as goal

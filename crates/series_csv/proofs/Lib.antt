@@ -1,4 +1,5 @@
 pub mod ColumnLaws
+pub mod LineLaws
 pub mod NearLaws
 pub mod RowLaws
 pub mod TextLaws

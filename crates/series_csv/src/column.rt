@@ -1,19 +1,22 @@
-ghost use Rattle.std.specs.Prelude.{◌≡◌, ◌≤◌, ◌^◌, ◌⊎◌, ℕ, IfOk, IfErr, length, unsigned_abs};
+ghost use Rattle.std.specs.Prelude.{◌≡◌, ◌≤◌, ◌^◌, ◌⊎◌, ℕ, true, IfOk, IfErr, length, unsigned_abs};
 ghost use Rattle.std.specs.Option.{ForSome};
-ghost use Rattle.csv.specs.Reading.{strip_bom};
+ghost use Rattle.csv.specs.Reading.{default_config, records, strip_bom};
 ghost use Rattle.csv.specs.Records.{fields_of};
 ghost use Rattle.semantics.specs.Readings.{reading};
 ghost use Rattle.semantics.specs.Most.{greatest_reading, most_readings, most_scale};
-ghost use Rattle.series_csv.specs.Column.{column_of, of_records, place_from, reading_of, readings_from};
+ghost use Rattle.num_text.specs.Cells.{cell_of};
+ghost use Rattle.series_csv.specs.Column.{by_cell, column_of, of_records, place_from, reading_of, readings_from};
 ghost use Rattle.series_csv.specs.Left.{IsPlain, rows_left};
+ghost use Rattle.series_csv.specs.Lines.{is_plain_text};
 
 use crate::fault::CsvErr;
+use crate::lines::{is_plain, next_line, read_lines};
 use crate::rows::{next_row, open};
 use csv::{ByteRecord, Reader};
 use num_text::{Cell, read_scaled};
 use std::alloc::Global;
 
-const MOST_READINGS: u32 = 1_048_576;
+pub(crate) const MOST_READINGS: u32 = 1_048_576;
 
 /// The bytes behind a byte order mark.
 #[tactic(auto, using(crate::proofs::TextLaws::strip_by_bytes))]
@@ -61,6 +64,19 @@ fn read_row(
     let Some(text) = row.get(place) else {
         return Err(CsvErr::Short(number));
     };
+    read_cell(text, scale, number, last)
+}
+
+/// The reading of a cell of a record, behind the last reading.
+pub(crate) fn read_cell(
+    text: &[u8],
+    scale: u8,
+    number: u32,
+    last: Option<i32>,
+) -> Result<i32, CsvErr>
+    requires { scale ≤ most_scale }
+    ensures { result ≡ by_cell number last (cell_of scale text.now) }
+{
     match read_scaled(text, scale) {
         Cell::Value(x) => Ok(x),
         Cell::Missing => last.ok_or(CsvErr::MissingFirst(number)),
@@ -126,6 +142,38 @@ fn read_under_header(
     read_rows(alloc, rdr, place, scale, before)
 }
 
+/// The same of a text whose records are its lines. Its header is read as any other's.
+fn read_plain_text(
+    alloc: Global,
+    rdr: &mut Reader<&[u8]>,
+    text: &[u8],
+    column: &[u8],
+    scale: u8,
+    before: Option<i32>,
+) -> Result<Vec<i32>, CsvErr>
+    requires plain { IsPlain rdr.old }
+    requires lines { is_plain_text text.now ≡ true }
+    requires all { rows_left rdr.old ≡ records default_config text.now }
+    requires scale { scale ≤ most_scale }
+    ensures few { IfOk result (λ v. length v.items ≤ most_readings) }
+    ensures ok { IfOk result (λ v. of_records (rows_left rdr.old) column.now scale before ≡ Ok v.items) }
+    ensures refused { IfErr result (λ e.
+        (e ≡ CsvErr.Memory) ⊎ (of_records (rows_left rdr.old) column.now scale before ≡ Err e)) }
+{
+    let mut header = ByteRecord::new(alloc);
+    let found = next_row(rdr, &mut header)?;
+    if !found {
+        return Err(CsvErr::NoHeader);
+    }
+    let Some(place) = place_of(&header, column) else {
+        return Err(CsvErr::NoColumn);
+    };
+    let Some((_, rest)) = next_line(text) else {
+        unreachable!();
+    };
+    read_lines(alloc, rest, place, scale, before)
+}
+
 /// The readings of a column of a CSV text, each times 10^`scale` and rounded, in the order of the records. A missing
 /// cell repeats the reading before it, for the first record `before`.
 #[tactic(auto, using(crate::proofs::NearLaws::column_near), unfolding(crate::specs::Column::column_of))]
@@ -147,6 +195,11 @@ pub fn read_column(
     ensures refused { IfErr result (λ e. (e ≡ CsvErr.Memory)
         ⊎ (column_of bytes.now column.now scale before ≡ Err e)) }
 {
-    let mut rdr = open(alloc, without_mark(bytes));
+    let marked = without_mark(bytes);
+    let mut rdr = open(alloc, marked);
+    let text = without_mark(marked);
+    if is_plain(text) {
+        return read_plain_text(alloc, &mut rdr, text, column, scale, before);
+    }
     read_under_header(alloc, &mut rdr, column, scale, before)
 }

@@ -3,6 +3,7 @@
 
 mod column;
 mod fault;
+mod lines;
 mod rows;
 
 pub use column::read_column;

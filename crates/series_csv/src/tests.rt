@@ -23,6 +23,7 @@ fn columns(rt: HostRuntime) -> Result<(), Fail> {
         ("v\n10000000000\n", "v", 0, Err(CsvErr::TooLarge(1))),
         ("v\n+7\n-0\n007\n", "v", 0, Ok([7, 0, 7].as_slice())),
         ("v\n\"7\"\n\n8", "v", 0, Ok([7, 8].as_slice())),
+        ("\nv\n\n\n7\n\n8", "v", 0, Ok([7, 8].as_slice())),
         ("v\n\"1\"\"2\"\n", "v", 0, Err(CsvErr::Bad(1))),
         ("\"a\"\"b\",v\n1,2\n", "a\"b", 0, Ok([1].as_slice())),
         ("a,v\n1,2\n3\n", "v", 0, Err(CsvErr::Short(2))),

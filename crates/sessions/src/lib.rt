@@ -20,4 +20,6 @@ pub use replies::{Cause, Reply, write_reply};
 pub use scripts::{ScriptErr, read_script};
 
 #[cfg(test)]
+mod hub_tests;
+#[cfg(test)]
 mod tests;

@@ -175,15 +175,25 @@ pub fn greatest_estimate(curve: &Curve, n: usize) -> u64
     first.max(last)
 }
 
-/// The greatest magnitude of an estimate, found place by place.
+/// The greatest magnitude of an estimate, found place by place. Each estimate is made from the one before.
 fn greatest_along(curve: &Curve, n: usize) -> u64
     requires few { n ≤ 2 ^ 20 }
     requires bounded { IsBounded curve.now n (10 ^ 9) }
     ensures { result ≡ greatest_estimate curve.now n }
 {
+    if n == 0 {
+        return 0;
+    }
     let mut most = 0u64;
-    for i in 0..n {
-        most = most.max(curve.estimate(i).unsigned_abs());
+    let mut estimate = curve.estimate(0);
+    let mut change = curve.step(0);
+    let bend = plus(curve.c, curve.c);
+    let mut i = 0;
+    while i < n {
+        most = most.max(estimate.unsigned_abs());
+        estimate = plus(estimate, change);
+        change = plus(change, bend);
+        i += 1;
     }
     most
 }

@@ -1,4 +1,4 @@
-use Rattle.std.proofs.Common.{◌≡◌, ◌+◌, ◌-◌, ◌*◌, ◌^◌, ◌≤◌, pos, ◌+ℤ◌, arith, length, unsigned_abs, SFits, w64, rules, ap, sym, ◌∙◌, to_z}
+use Rattle.std.proofs.Common.{◌≡◌, ◌+ℤ◌, arith, length, SFits, w64, rules, ap, sym, ◌∙◌}
 use Rattle.std.specs.Int.{w128}
 use Rattle.std.proofs.lemmas.Int.{to_z-of_z}
 use Rattle.semantics.specs.Sums.{total_below}

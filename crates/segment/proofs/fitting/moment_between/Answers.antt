@@ -1,4 +1,4 @@
-use Rattle.std.proofs.Common.{◌≡◌, ◌+◌, ◌-◌, ◌*◌, ◌^◌, ◌≤◌, pos, ℤ, ◌+ℤ◌, arith, SFits, w32, w64, get_or, rules, refl, ap, sym, ◌∙◌, to_z}
+use Rattle.std.proofs.Common.{◌≡◌, pos, ℤ, ◌+ℤ◌, arith, SFits, w32, w64, get_or, rules, ap, sym, ◌∙◌, to_z}
 use Rattle.std.proofs.lemmas.Int.{ints, to_z-of_z}
 use Rattle.semantics.specs.Sums.{total_below}
 use Rattle.semantics.proofs.SumLaws.{total_below-more}

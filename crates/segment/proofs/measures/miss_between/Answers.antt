@@ -1,4 +1,4 @@
-use Rattle.std.proofs.Common.{◌≡◌, SFits, w64, rules, ap, sym, ◌∙◌, pos, to_z}
+use Rattle.std.proofs.Common.{SFits, w64, rules, ap, sym, ◌∙◌, to_z}
 use Rattle.std.proofs.lemmas.Int.{to_z-of_z}
 use Rattle.segment.proofs.measures.miss_between.Goals as goal
 

@@ -1,6 +1,5 @@
-use Rattle.std.proofs.Common.{◌≡◌, ◌+◌, ◌*◌, ◌<◌, pos, ◌+ℤ◌, length, arith, SFits, w32, w64, get_or, rules, refl, ap, sym, ◌∙◌, to_z}
+use Rattle.std.proofs.Common.{◌≡◌, ◌<◌, pos, length, arith, SFits, w32, w64, get_or, rules, refl, ◌∙◌}
 use Rattle.std.proofs.lemmas.Int.{to_z-of_z}
-use Rattle.semantics.specs.Sums.{sum_below}
 use Rattle.semantics.proofs.SumLaws.{sum_below-more}
 use Rattle.segment.specs.Measure.{estimate_at, miss_at}
 use Rattle.segment.proofs.Bounds.{greatest_reading-le, small_from_bounded}

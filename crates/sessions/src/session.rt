@@ -35,7 +35,7 @@ use store_file::{Store, Stored};
 pub(crate) struct Session {
     budget: u128,
     /// Those of all series as of the opening.
-    trees: Vec<Tree>,
+    pub(crate) trees: Vec<Tree>,
     /// The plain query.
     query: Query,
     cut: Cut<u32>,

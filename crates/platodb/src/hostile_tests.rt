@@ -1,5 +1,6 @@
 // Runs in which a call of the shelf or of the output fails, runs over damaged stores, and hostile texts.
 
+use crate::cert_tests::SUM;
 use crate::store_tests::{says, shelf_with, turns};
 use crate::tests::{ALTERNATING, words_of};
 use outside::{MemOut, MemShelf};
@@ -13,13 +14,14 @@ const MANY_CALLS: u64 = 100;
 
 // A line of each command over the store `s` of the series `x`, what it writes, how many files it reads, and how many it
 // replaces.
-const LINES: [(&str, &str, u64, u64); 7] = [
+const LINES: [(&str, &str, u64, u64); 8] = [
     ("once a.csv v 0 320 0 32", "0 320 320 1 0\n", 1, 0),
     ("new s 0 0", "new\n", 0, 1),
     ("load s y a.csv v", "loaded y 32\n", 2, 1),
     ("append s x a.csv v", "appended x 32 64\n", 2, 1),
     ("check s", "ok 1 32\n", 1, 0),
     ("query s 320 sum(x)", "0 320 320 1 0\n", 1, 0),
+    ("prove s 319 sum(x,0,32)", SUM, 1, 0),
     (
         "gen s g 1 0",
         "gen g 1\n-108 -108 0 1 0\n11664 11664 0 1 0\n",

@@ -14,6 +14,8 @@ use std::io::{self, ErrorKind};
 use std::process::ExitCode;
 
 #[cfg(test)]
+mod cert_tests;
+#[cfg(test)]
 mod gen_tests;
 #[cfg(test)]
 mod hostile_tests;

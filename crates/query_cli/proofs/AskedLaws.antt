@@ -18,7 +18,7 @@ use Rattle.semantics.proofs.PlainLaws.{query_value-plain}
 use Rattle.store_file.specs.Added.{names_in}
 use Rattle.store_file.specs.Facts.{facts_in}
 use Rattle.store_file.specs.StoreValue.{StoreValue}
-use Rattle.query_cli.specs.Asked.{Asked, IsAnswered, admitted_in, answer_line, cut_line, forest_of, readings_in, roots_in}
+use Rattle.query_cli.specs.Asked.{Asked, IsAnswerOf, IsAnswered, IsIntervalLine, admitted_in, answer_line, cut_line, forest_of, readings_in, roots_in}
 use Rattle.query_cli.specs.Refusals.{Refusal, domain, query_rank, query_refusal, query_unknown, range}
 use Rattle.query_cli.specs.Steps.{unless_refused}
 use Rattle.query_cli.specs.Stops.{HasCause, IfRefused, IsNotAdmitted, IsStepRefusal}
@@ -36,6 +36,28 @@ holds q m lengths budget a forest is_plain tells =
 
 -- ---- the refusal, and the line, by what the steps found
 
+pub is_answer : (q : QueryTerm) (m : StoreValue) (budget : ℕ) (a : Answer) → Tells (plain q) (roots_in (plain q) m) budget a
+    → Has a.iv (query_value (readings_in m) (plain q)) → IsAnswerOf (record { store = m; query = q }) budget a
+is_answer q m budget a tells has =
+    record {
+      tells = tells;
+      holds = subst (Has a.iv) (query_value-plain (readings_in m) q) has;
+      within = subst (IsWithin budget) (sym tells.interval) tells.is_last.within;
+    }
+
+pub interval_line : (asked : Asked) (budget : ℕ) (a : Answer) (text : List ℕ) → IsAnswerOf asked budget a
+    → text ≡ answer_line a.iv.lo a.iv.hi (width_of a.iv) (length a.cut) a.opened → IsIntervalLine asked budget text
+interval_line asked budget a text is line =
+    record {
+      last = is.tells.last;
+      is_last = is.tells.is_last;
+      iv = a.iv;
+      interval = sym is.tells.interval;
+      holds = is.holds;
+      within = is.within;
+      line = line ∙ ap₂ (λ rows opened. answer_line a.iv.lo a.iv.hi (width_of a.iv) (length rows) opened) is.tells.rows is.tells.opened;
+    }
+
 pub answered : (q : QueryTerm) (m : StoreValue) (budget : ℕ) (a : Answer) (text : List ℕ) → refusal_of (facts_in m) (plain q) ≡ None
     → Tells (plain q) (roots_in (plain q) m) budget a → Has a.iv (query_value (readings_in m) (plain q))
     → text ≡ answer_line a.iv.lo a.iv.hi (width_of a.iv) (length a.cut) a.opened → IsAnswered q m budget text
@@ -43,15 +65,7 @@ answered q m budget a text none tells has line =
     let asked : Asked = record { store = m; query = q } in
     record {
       admitted = ap (unless_refused query_refusal asked) none;
-      line = record {
-        last = tells.last;
-        is_last = tells.is_last;
-        iv = a.iv;
-        interval = sym tells.interval;
-        holds = subst (Has a.iv) (query_value-plain (readings_in m) q) has;
-        within = subst (IsWithin budget) (sym tells.interval) tells.is_last.within;
-        line = line ∙ ap₂ (λ rows opened. answer_line a.iv.lo a.iv.hi (width_of a.iv) (length rows) opened) tells.rows tells.opened;
-      };
+      line = interval_line asked budget a text (is_answer q m budget a tells has) line;
     }
 
 -- ---- a query that is not admitted

@@ -6,4 +6,5 @@ pub mod Gen
 pub mod Load
 pub mod New
 pub mod Once
+pub mod Prove
 pub mod Query

@@ -5,6 +5,7 @@ pub mod EmptyLaws
 pub mod GeneratedLaws
 pub mod PartFacts
 pub mod PartLaws
+pub mod QuestionLaws
 pub mod ReplayLaws
 pub mod RunLaws
 pub mod StepLaws

@@ -8,7 +8,6 @@ use Rattle.descent.specs.Descents.{cut_of, roots}
 use Rattle.descent.specs.Known.{node_facts}
 use Rattle.descent.specs.Spent as spent
 use Rattle.descent.specs.Spent.{HasSpent}
-use Rattle.descent.specs.Sums.{width_of}
 use Rattle.descent.specs.Told.{Tells, told}
 use Rattle.descent.specs.declared.descents.Answer.{Answer}
 use Rattle.lazy_tree.specs.HeaderIn as header
@@ -30,9 +29,9 @@ use Rattle.store_file.specs.declared.decoding.StoreErr.{StoreErr}
 use Rattle.store_file.specs.declared.decoding.StoreErr.TheVariants.{BadNode, Memory, NotAStore}
 use Rattle.store_file.proofs.DecodedLaws.{image-decode}
 use Rattle.tree_file.specs.Bytes.{IsBytes}
-use Rattle.query_cli.specs.Asked.{Asked, IsAnswered, admitted_in, answer_line, cut_line, forest_of, opened_in, roots_in}
-use Rattle.query_cli.specs.Commands.Query.{AnswersAsked, IsReadInParts, are_bytes, asked_in, asked_of, asked_of_none, asked_over, parts_size}
-use Rattle.query_cli.specs.Parted.{AreBad, HandsOver, IsRootKnown, HasHeader, IfStands, IsAnsweredOver, IsBad, IsShown, IsThere, IsTold, IsUnopened, Shows}
+use Rattle.query_cli.specs.Asked.{Asked, forest_of, opened_in, roots_in}
+use Rattle.query_cli.specs.Commands.Query.{are_bytes, asked_in, asked_of, asked_of_none, asked_over, parts_size}
+use Rattle.query_cli.specs.Parted.{AreBad, HandsOver, IsRootKnown, HasHeader, IfStands, IsAnsweredAs, IsAnsweredFor, IsAnsweredOver, IsBad, IsShown, IsThere, IsTold, IsUnopened, Shows}
 use Rattle.query_cli.specs.Reading.{File, Shown, answered, file_at, file_within, held, most_store, no_store, oversized, refused}
 use Rattle.query_cli.specs.Refusals.{Refusal, query_refusal, store_fault}
 use Rattle.query_cli.specs.Steps.{and_then, unless_refused}
@@ -230,36 +229,47 @@ not_admitted files name q facts s header same =
 -- ---- a query that is answered
 
 -- what the steps found
-pub record Found (files : Option Files) (name : List ℕ) (q : QueryTerm) (nodes : Opened) (names : List (List ℕ)) (facts : List Fact) (budget : ℕ) (a : Answer) (text : List ℕ) : Type 0 where
+pub record Found (files : Option Files) (name : List ℕ) (q : QueryTerm) (nodes : Opened) (names : List (List ℕ)) (facts : List Fact) (budget : ℕ) (a : Answer) : Type 0 where
   pub header : IfTold files (λ m. HasHeader m name)
   pub told : IfStands files name (IsTold nodes files names facts)
   pub admitted : refusal_of facts (plain q) ≡ None
   pub tells : (forest : Forest) → Means nodes files forest → Tells (plain q) (roots (plain q) forest names) budget a
-  pub line : text ≡ answer_line a.iv.lo a.iv.hi (width_of a.iv) (length a.cut) a.opened
 
-tells_store : (files : Option Files) (name : List ℕ) (q : QueryTerm) (nodes : Opened) (names : List (List ℕ)) (facts : List Fact) (budget : ℕ) (a : Answer) (text : List ℕ)
-    → Found files name q nodes names facts budget a text → IfStands files name (λ m. Tells (plain q) (roots_in (plain q) m) budget a)
-tells_store files name q nodes names facts budget a text f k m e there is =
+tells_store : (files : Option Files) (name : List ℕ) (q : QueryTerm) (nodes : Opened) (names : List (List ℕ)) (facts : List Fact) (budget : ℕ) (a : Answer)
+    → Found files name q nodes names facts budget a → IfStands files name (λ m. Tells (plain q) (roots_in (plain q) m) budget a)
+tells_store files name q nodes names facts budget a f k m e there is =
     let t = f.told k m e there is in
     subst (λ ns. Tells (plain q) (roots (plain q) (forest_of m) ns) budget a) t.names_are (f.tells (forest_of m) t.means)
 
-is_answered : (files : Option Files) (name : List ℕ) (q : QueryTerm) (nodes : Opened) (names : List (List ℕ)) (facts : List Fact) (budget : ℕ) (a : Answer) (text : List ℕ)
-    → Found files name q nodes names facts budget a text → IfStands files name (λ m. IsAnswered q m budget text)
-is_answered files name q nodes names facts budget a text f k m e there is =
+is_answered : (files : Option Files) (name : List ℕ) (q : QueryTerm) (nodes : Opened) (names : List (List ℕ)) (facts : List Fact) (budget : ℕ) (a : Answer)
+    → Found files name q nodes names facts budget a → IfStands files name (λ m. IsAnsweredFor q budget names a (record { store = m; query = q }))
+is_answered files name q nodes names facts budget a f k m e there is =
     let t = f.told k m e there is in
-    let tells = tells_store files name q nodes names facts budget a text f k m e there is in
+    let tells = tells_store files name q nodes names facts budget a f k m e there is in
     let fits = forest_fits nodes files (forest_of m) t.means in
-    whole.answered q m budget a text (ap (λ fs. refusal_of fs (plain q)) (sym t.facts_are) ∙ f.admitted) tells
-    (whole.holds (plain q) m nodes.lengths budget a fits (IsPlain-plain q) tells) f.line
+    record {
+      query_is = refl;
+      names_are = t.names_are;
+      is_answer = whole.is_answer q m budget a tells (whole.holds (plain q) m nodes.lengths budget a fits (IsPlain-plain q) tells);
+    }
 
-pub answered_over : (files : Option Files) (name : List ℕ) (q : QueryTerm) (nodes : Opened) (names : List (List ℕ)) (facts : List Fact) (budget : ℕ) (a : Answer) (text : List ℕ)
-    → Found files name q nodes names facts budget a text → IsAnsweredOver files name q budget text
-answered_over files name q nodes names facts budget a text f =
-    let P : Result (Option Asked) Refusal → Type 0 = λ x. (asked : Option Asked) × (x ≡ Ok asked) × AnswersAsked budget asked text in
-    let k = by_parts P files name q answered f.header (None, refl, (a.iv, length a.cut, a.opened, f.line))
-    (λ s m e there is. let i = is_answered files name q nodes names facts budget a text f s m e there is in
-    (Some (record { store = m; query = q }), ap (λ x. and_then x (λ asked. Ok (Some asked))) i.admitted, i.line)) in
-    record { asked = k.2.0; shows = subst (Shows files name q) k.2.1 k.1; line = k.2.2 }
+is_admitted : (q : QueryTerm) (m : StoreValue) (facts : List Fact) → facts ≡ facts_in m → refusal_of facts (plain q) ≡ None
+    → asked_of answered q (Ok m) ≡ Ok (Some (record { store = m; query = q }))
+is_admitted q m facts same none =
+    let asked : Asked = record { store = m; query = q } in
+    ap (λ o. and_then (unless_refused query_refusal asked o) (λ a. Ok (Some a))) (ap (λ fs. refusal_of fs (plain q)) (sym same) ∙ none)
+
+pub answered_over : (files : Option Files) (name : List ℕ) (q : QueryTerm) (nodes : Opened) (names : List (List ℕ)) (facts : List Fact) (budget : ℕ) (a : Answer)
+    → Found files name q nodes names facts budget a → IsAnsweredOver files name q budget names a
+answered_over files name q nodes names facts budget a f =
+    let P : Result (Option Asked) Refusal → Type 0 = λ x. (asked : Option Asked) × (x ≡ Ok asked) × IsAnsweredAs q budget names a asked in
+    let k = by_parts P files name q answered f.header (None, refl, tt)
+    (λ s m e there is. (
+      Some (record { store = m; query = q }),
+      is_admitted q m facts (f.told s m e there is).facts_are f.admitted,
+      is_answered files name q nodes names facts budget a f s m e there is,
+    )) in
+    record { asked = k.2.0; shows = subst (Shows files name q) k.2.1 k.1; answer = k.2.2 }
 
 -- ---- the bytes that are handed out
 
@@ -268,28 +278,29 @@ sum_of : (header series names splits opened : ℕ) (a b c : Option ℕ) → name
 sum_of header series names splits opened a b c same first second = λ now e.
     let k = second now e in let j = first k.0 k.1 in (j.0, j.1, omega (arith, same, j.2, k.2))
 
-pub hands_over : (files : Option Files) (name : List ℕ) (q : QueryTerm) (nodes : Opened) (names : List (List ℕ)) (facts : List Fact) (budget : ℕ) (a : Answer) (text : List ℕ) (before between now : Option ℕ)
-    → Found files name q nodes names facts budget a text → HandsOut (header_len names + 56 * length names) before between
-    → HasSpent (spent.roots_in (plain q) nodes.lengths 0 names) (length a.cut) a.opened between now → HandsOver files name q text before now
-hands_over None name q nodes names facts budget a text before between now f first second = tt
-hands_over (Some k) name q nodes names facts budget a text before between now f first second = λ m is there.
+pub hands_over : (files : Option Files) (name : List ℕ) (q : QueryTerm) (nodes : Opened) (names : List (List ℕ)) (facts : List Fact) (budget : ℕ) (a : Answer) (before between now : Option ℕ)
+    → Found files name q nodes names facts budget a → HandsOut (header_len names + 56 * length names) before between
+    → HasSpent (spent.roots_in (plain q) nodes.lengths 0 names) (length a.cut) a.opened between now → HandsOver files name q budget names a before now
+hands_over None name q nodes names facts budget a before between now f first second = tt
+hands_over (Some k) name q nodes names facts budget a before between now f first second = λ m is there.
     let t = f.told k m refl there is in
-    let tells = tells_store (Some k) name q nodes names facts budget a text f k m refl there is in
+    let answer = is_answered (Some k) name q nodes names facts budget a f k m refl there is in
+    let tells = answer.is_answer.tells in
     let fits = forest_fits nodes (Some k) (forest_of m) t.means in
     let opened : a.opened ≡ opened_in a.cut = tells.opened ∙ ap opened_in (sym tells.rows) in
     let series : length names ≡ length m.series = ap length t.names_are ∙ length-map m.series name_of in
     let rows : spent.roots_in (plain q) nodes.lengths 0 names ≡ length (told (cut_of (roots_in (plain q) m))) =
     root_rows (plain q) nodes.lengths (forest_of m) names fits ∙ ap (λ ns. length (told (cut_of (roots (plain q) (forest_of m) ns)))) t.names_are in
     record {
-      iv = a.iv;
-      rows = a.cut;
-      line = f.line ∙ ap (λ n. answer_line a.iv.lo a.iv.hi (width_of a.iv) (length a.cut) n) opened;
-      splits = second.splits;
-      more = second.more ∙ ap (λ n. n + second.splits) rows;
-      handed =
-          subst (λ n. HandsOut (parts_size m second.splits n) before now) opened
-          (subst (λ h. HandsOut (h + 56 * (length m.series + 2 * second.splits) + 64 * a.opened) before now) (ap header_len t.names_are)
-          (sum_of (header_len names) (length m.series) (length names) second.splits a.opened before between now series first second.handed));
+      answer = answer;
+      parts = record {
+        splits = second.splits;
+        more = second.more ∙ ap (λ n. n + second.splits) rows;
+        handed =
+            subst (λ n. HandsOut (parts_size m second.splits n) before now) opened
+            (subst (λ h. HandsOut (h + 56 * (length m.series + 2 * second.splits) + 64 * a.opened) before now) (ap header_len t.names_are)
+            (sum_of (header_len names) (length m.series) (length names) second.splits a.opened before between now series first second.handed));
+      };
     }
 
 -- ---- over the same files

@@ -20,7 +20,7 @@ use Rattle.store_file.specs.Last.{last_in}
 use Rattle.store_file.specs.declared.decoding.StoreErr.{StoreErr}
 use Rattle.store_file.specs.declared.decoding.StoreErr.TheVariants as stored
 use Rattle.query_cli.specs.Asked.{admitted_in}
-use Rattle.query_cli.specs.Commands.{Command, append, check, gen, load, new_store, once, query, refusal_of}
+use Rattle.query_cli.specs.Commands.{Command, append, check, gen, load, new_store, once, prove, query, refusal_of}
 use Rattle.query_cli.specs.Commands.Check.{CheckCommand, checked_by}
 use Rattle.query_cli.specs.Commands.Append.{append_by, appended_in}
 use Rattle.query_cli.specs.Commands.Column.{Bringing, Brought, ColumnCommand, brought_by}
@@ -185,6 +185,7 @@ is_usage reading (Some (load c)) h = absurd (bring_isnt reading c (load_by c) (l
 is_usage reading (Some (append c)) h = absurd (bring_isnt reading c (append_by c) (append_isnt c) (error_of (brought_by reading c (append_by c)) usage h))
 is_usage reading (Some (check c)) h = absurd (check_isnt reading c (error_of (checked_by reading c) usage h))
 is_usage reading (Some (query c)) h = absurd (query_isnt reading c (error_of (asked_by reading c) usage h))
+is_usage reading (Some (prove c)) h = absurd (query_isnt reading c (error_of (asked_by reading c) usage h))
 is_usage reading (Some (gen c)) h = absurd (gen_isnt reading c (error_of (roomy_by reading c) usage h))
 
 pub usage_only : (files : Option Files) (command : Option Command) (r : Refusal) → IsRefused files command r → status_of r ≡ status.Usage → command ≡ None

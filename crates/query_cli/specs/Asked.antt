@@ -5,7 +5,8 @@ use Rattle.std.specs.Prelude.{◌≡◌, ◌++◌, ◌≤◌, ℕ, ℤ, List, le
 use Rattle.descent.specs.Descents.{IsLast, Nodes, cut_of, roots}
 use Rattle.descent.specs.Laws.{stored}
 use Rattle.descent.specs.Sums.{interval_in, width_of}
-use Rattle.descent.specs.Told.{told}
+use Rattle.descent.specs.Told.{Tells, told}
+use Rattle.descent.specs.declared.descents.Answer.{Answer}
 use Rattle.descent.specs.declared.rows.CutRow.{CutRow}
 use Rattle.interval.specs.Interval.{Has, Interval}
 use Rattle.segment.specs.Nodes.{Forest}
@@ -51,6 +52,12 @@ value_of a = query_value (readings_in a.store) a.query
 -- the cut with which the descent of a plain query begins: the roots of the series that it names
 abbrev pub roots_in : QueryTerm → StoreValue → Nodes
 roots_in q m = roots q (forest_of m) (names_in m)
+
+-- the answer of the first cut in the descent whose interval is no wider than the budget, which holds the value
+pub record IsAnswerOf (a : Asked) (budget : ℕ) (answer : Answer) : Type 0 where
+  pub tells : Tells (plain a.query) (roots_in (plain a.query) a.store) budget answer
+  pub holds : Has answer.iv (value_of a)
+  pub within : width_of answer.iv ≤ budget
 
 -- `LO HI WIDTH NODES OPENED`
 abbrev pub answer_line : ℤ → ℤ → ℕ → ℕ → ℕ → List ℕ

@@ -1,6 +1,7 @@
 -- A store's file that is read in parts.
-use Rattle.std.specs.Prelude.{◌≡◌, ◌≢◌, ℕ, ◌≤◌, ◌<◌, List, length, slice_index, Option, Some, Result, Ok, Err}
+use Rattle.std.specs.Prelude.{◌≡◌, ◌≢◌, ℕ, ◌≤◌, ◌<◌, List, length, slice_index, Option, Some, None, Result, Ok, Err}
 use Rattle.descent.specs.Known.{AreApart, node_facts}
+use Rattle.descent.specs.declared.descents.Answer.{Answer}
 use Rattle.lazy_tree.specs.HeaderIn.{header_in}
 use Rattle.lazy_tree.specs.Opened.{Means, Opened}
 use Rattle.segment.specs.Nodes.{Forest, known_root}
@@ -11,9 +12,9 @@ use Rattle.semantics.specs.Term.{QueryTerm}
 use Rattle.store_file.specs.Added.{names_in}
 use Rattle.store_file.specs.Facts.{facts_in}
 use Rattle.store_file.specs.StoreValue.{StoreValue, IsStoreValue, store_image}
-use Rattle.query_cli.specs.Asked.{Asked, forest_of}
-use Rattle.query_cli.specs.Commands.Query.{AnswersAsked, IsReadInParts, asked_over}
-use Rattle.query_cli.specs.Reading.{File, Shown, file_at, held, most_store}
+use Rattle.query_cli.specs.Asked.{Asked, IsAnswerOf, forest_of}
+use Rattle.query_cli.specs.Commands.Query.{IsReadInParts, QueryCommand, asked_by, asked_over}
+use Rattle.query_cli.specs.Reading.{File, IsRead, Reading, Shown, file_at, held, most_store}
 use Rattle.query_cli.specs.Refusals.{Refusal, store_fault}
 use Rattle.query_cli.specs.Stops.{HasCause}
 
@@ -83,15 +84,50 @@ pub record IsShown (files : Option Files) (name : List ℕ) (q : QueryTerm) (r :
 abbrev pub IsUnopened : Option Files → List ℕ → Refusal → Type 0
 IsUnopened files name r = (q : QueryTerm) → IsShown files name q r
 
--- the line of an answer
-pub record IsAnsweredOver (files : Option Files) (name : List ℕ) (q : QueryTerm) (budget : ℕ) (text : List ℕ)
-    : Type 0 where
+-- what is asked of a store is answered: the query, and the names of the series
+pub record IsAnsweredFor (q : QueryTerm) (budget : ℕ) (names : List (List ℕ)) (a : Answer) (asked : Asked) : Type 0
+  where
+    pub query_is : asked.query ≡ q
+    pub names_are : names ≡ names_in asked.store
+    pub is_answer : IsAnswerOf asked budget a
+
+-- of a file that stands for no store nothing is asked
+abbrev pub IsAnsweredAs : QueryTerm → ℕ → List (List ℕ) → Answer → Option Asked → Type 0
+IsAnsweredAs q budget names a None = Unit {0}
+IsAnsweredAs q budget names a (Some asked) = IsAnsweredFor q budget names a asked
+
+-- the answer
+pub record IsAnsweredOver (files : Option Files) (name : List ℕ) (q : QueryTerm) (budget : ℕ)
+    (names : List (List ℕ)) (a : Answer) : Type 0 where
   pub asked : Option Asked
   pub shows : Shows files name q (Ok asked)
-  pub line : AnswersAsked budget asked text
+  pub answer : IsAnsweredAs q budget names a asked
 
--- the bytes that are handed out for it
-abbrev pub HandsOver : Option Files → List ℕ → QueryTerm → List ℕ → Option ℕ → Option ℕ → Type 0
-HandsOver files name q text before now =
+-- the same where the file stands for a store, with the bytes that are handed out for it
+pub record IsAnsweredIn (m : StoreValue) (q : QueryTerm) (budget : ℕ) (names : List (List ℕ)) (a : Answer)
+    (before now : Option ℕ) : Type 0 where
+  pub answer : IsAnsweredFor q budget names a (record { store = m; query = q })
+  pub parts : IsReadInParts m q a.cut before now
+
+abbrev pub HandsOver : Option Files → List ℕ → QueryTerm → ℕ → List (List ℕ) → Answer → Option ℕ → Option ℕ → Type 0
+HandsOver files name q budget names a before now =
     IfTold files (λ k. (m : StoreValue) → IsStoreValue m → file_of k name ≡ Some (store_image m)
-    → IsReadInParts m q text before now)
+    → IsAnsweredIn m q budget names a before now)
+
+-- ---- a query of a command
+
+-- why there is no answer, over the bytes that were read
+pub record IsUnanswered (files : Option Files) (c : QueryCommand) (r : Refusal) : Type 0 where
+  pub reading : Reading
+  pub read : IsRead files reading
+  pub found : asked_by reading c ≡ Err r
+  pub cause : HasCause r
+
+-- the answer, over the bytes that were read
+pub record IsFound (files : Option Files) (c : QueryCommand) (q : QueryTerm) (names : List (List ℕ)) (a : Answer)
+    : Type 0 where
+  pub reading : Reading
+  pub read : IsRead files reading
+  pub asked : Option Asked
+  pub found : asked_by reading c ≡ Ok asked
+  pub answer : IsAnsweredAs q c.budget names a asked

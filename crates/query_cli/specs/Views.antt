@@ -1,5 +1,5 @@
 -- Commands and refusals without where their words lie.
-use Rattle.query_cli.specs.Commands.{Command, once, new_store, load, append, check, query, gen}
+use Rattle.query_cli.specs.Commands.{Command, once, new_store, load, append, check, query, prove, gen}
 use Rattle.query_cli.specs.Commands.Once.{OnceCommand}
 use Rattle.query_cli.specs.Commands.New.{NewCommand}
 use Rattle.query_cli.specs.Commands.Column.{ColumnCommand}
@@ -15,7 +15,9 @@ use Rattle.query_cli.specs.declared.commands.append.Append.{Append}
 use Rattle.query_cli.specs.declared.commands.load.Load.{Load}
 use Rattle.query_cli.specs.declared.steps.column.Column.{Column}
 use Rattle.query_cli.specs.declared.commands.check.Check.{Check}
+use Rattle.query_cli.specs.declared.commands.prove.Prove.{Prove}
 use Rattle.query_cli.specs.declared.commands.query.Query.{Query}
+use Rattle.query_cli.specs.declared.steps.question.Question.{Question}
 use Rattle.query_cli.specs.declared.commands.generate.Gen.{Gen}
 use Rattle.query_cli.specs.declared.refusals.Refusal.{Refusal as RefusalCode}
 use Rattle.query_cli.specs.declared.refusals.Refusal.TheVariants as refusal
@@ -45,8 +47,14 @@ append_view a = column_view a.0
 abbrev pub check_view : Check → CheckCommand
 check_view c = record { store = c.store.now }
 
+abbrev pub question_view : Question → QueryCommand
+question_view q = record { store = q.store.now; budget = q.budget; text = q.text.now }
+
 abbrev pub query_view : Query → QueryCommand
-query_view q = record { store = q.store.now; budget = q.budget; text = q.text.now }
+query_view q = question_view q.0
+
+abbrev pub prove_view : Prove → QueryCommand
+prove_view p = question_view p.0
 
 abbrev pub gen_view : Gen → GenCommand
 gen_view g = record { store = g.store.now; name = g.name; count = g.count; seed = g.seed }
@@ -58,6 +66,7 @@ command_view (command.Load l) = load (load_view l)
 command_view (command.Append a) = append (append_view a)
 command_view (command.Check c) = check (check_view c)
 command_view (command.Query q) = query (query_view q)
+command_view (command.Prove p) = prove (prove_view p)
 command_view (command.Gen g) = gen (gen_view g)
 
 abbrev pub refusal_view : RefusalCode → Refusal

@@ -14,6 +14,7 @@ mod generate;
 mod load;
 mod new;
 mod once;
+mod prove;
 mod query;
 
 use crate::refusals::Refusal;
@@ -31,6 +32,7 @@ pub(crate) enum Command<'a> {
     Append(append::Append<'a>),
     Check(check::Check<'a>),
     Query(query::Query<'a>),
+    Prove(prove::Prove<'a>),
     Gen(generate::Gen<'a>),
 }
 
@@ -56,6 +58,9 @@ pub(crate) fn read_command(words: &[String]) -> Option<Command<'_>>
     }
     if is_form(words, "query", 4) {
         return query::Query::read(words);
+    }
+    if is_form(words, "prove", 4) {
+        return prove::Prove::read(words);
     }
     if is_form(words, "gen", 5) {
         return generate::Gen::read(words);
@@ -94,6 +99,7 @@ pub(crate) fn answer<S: Shelf>(
         Some(Command::Append(append)) => append.answer(alloc, shelf),
         Some(Command::Check(check)) => check.answer(alloc, shelf),
         Some(Command::Query(query)) => query.answer(alloc, shelf),
+        Some(Command::Prove(prove)) => prove.answer(alloc, shelf),
         Some(Command::Gen(generate)) => generate.answer(alloc, shelf),
     }
 }

@@ -5,4 +5,5 @@ pub(crate) mod asked;
 pub(crate) mod column;
 pub(crate) mod files;
 pub(crate) mod parts;
+pub(crate) mod question;
 pub(crate) mod store;

@@ -34,7 +34,7 @@ abbrev pub with_budget : List ℕ → Option ℕ → List ℕ → Option QueryCo
 with_budget store None text = None
 with_budget store (Some budget) text = Some (record { store = store; budget = budget; text = text })
 
--- `query STORE BUDGET QUERY`
+-- `STORE BUDGET QUERY` behind the command's name
 abbrev pub query_of : List (List ℕ) → Option QueryCommand
 query_of words =
     if is_file (word words 1) then with_budget (word words 1) (digits_up_to most_budget (word words 2)) (word words 3)
@@ -97,16 +97,20 @@ pub record QueryAnswers (reading : Reading) (c : QueryCommand) (text : List ℕ)
 abbrev pub parts_size : StoreValue → ℕ → ℕ → ℕ
 parts_size m splits opened = header_len (names_in m) + 56 * (length m.series + 2 * splits) + 64 * opened
 
--- no more is handed out for a line over a store, whose rows are those of the roots and one more for each split
-pub record IsReadInParts (m : StoreValue) (q : QueryTerm) (text : List ℕ) (before now : Option ℕ) : Type 0 where
-  pub iv : Interval
-  pub rows : List CutRow
-  pub line : text ≡ cut_line iv rows
+-- no more is handed out over a store for rows that are those of the roots and one more for each split
+pub record IsReadInParts (m : StoreValue) (q : QueryTerm) (rows : List CutRow) (before now : Option ℕ) : Type 0 where
   pub splits : ℕ
   pub more : length rows ≡ length (told (cut_of (roots_in (plain q) m))) + splits
   pub handed : HandsOut (parts_size m splits (opened_in rows)) before now
 
+-- no more is handed out for a line than its rows take
+pub record IsLineInParts (m : StoreValue) (q : QueryTerm) (text : List ℕ) (before now : Option ℕ) : Type 0 where
+  pub iv : Interval
+  pub rows : List CutRow
+  pub line : text ≡ cut_line iv rows
+  pub parts : IsReadInParts m q rows before now
+
 -- the same, where the files are told and STORE stands for a store
 abbrev pub QueryHands : Option Files → QueryCommand → List ℕ → Option ℕ → Option ℕ → Type 0
 QueryHands files c text before now = IfTold files (λ k. (q : QueryTerm) (m : StoreValue) → query_in c.text ≡ Ok q
-    → IsStoreValue m → file_of k c.store ≡ Some (store_image m) → IsReadInParts m q text before now)
+    → IsStoreValue m → file_of k c.store ≡ Some (store_image m) → IsLineInParts m q text before now)

@@ -175,6 +175,7 @@ pub(crate) fn descent_over<S: Shelf>(
     ensures handed { IfOk result (λ a.
         HasSpent (roots_in (query_term_of q.now) store.old.nodes.lengths 0 store.old.names.items)
         (length a.cut) a.opened (S.handed shelf.old) (S.handed shelf.new)) }
+    ensures names { store.new.names.items ≡ store.old.names.items }
     ensures fetches { S.fetches shelf.new ≡ S.fetches shelf.old }
 {
     match descend(alloc, &mut store.nodes, shelf, &store.names, q, budget) {

@@ -14,7 +14,7 @@ const MANY_CALLS: u64 = 100;
 
 // A line of each command over the store `s` of the series `x`, what it writes, how many files it reads, and how many it
 // replaces.
-const LINES: [(&str, &str, u64, u64); 8] = [
+const LINES: [(&str, &str, u64, u64); 9] = [
     ("once a.csv v 0 320 0 32", "0 320 320 1 0\n", 1, 0),
     ("new s 0 0", "new\n", 0, 1),
     ("load s y a.csv v", "loaded y 32\n", 2, 1),
@@ -22,6 +22,7 @@ const LINES: [(&str, &str, u64, u64); 8] = [
     ("check s", "ok 1 32\n", 1, 0),
     ("query s 320 sum(x)", "0 320 320 1 0\n", 1, 0),
     ("prove s 319 sum(x,0,32)", SUM, 1, 0),
+    ("verify s c", "holds\n", 2, 0),
     (
         "gen s g 1 0",
         "gen g 1\n-108 -108 0 1 0\n11664 11664 0 1 0\n",
@@ -39,7 +40,7 @@ fn ran(
     replaces: &[u64],
     puts: &[(u64, u64)],
 ) -> Result<(Status, MemShelf, MemOut), Fail> {
-    let files = [("s", store), ("a.csv", ALTERNATING)];
+    let files = [("s", store), ("a.csv", ALTERNATING), ("c", SUM.as_bytes())];
     let mut shelf = shelf_with(alloc, &files, reads, replaces)?;
     let mut out = MemOut::new(alloc, puts.to_vec(alloc)?);
     let words = words_of(alloc, line)?;

@@ -1,14 +1,12 @@
 -- A query over a store, by its descent.
-use Rattle.std.proofs.Common.{◌≡◌, ◌∙◌, ℕ, ◌+◌, ◌≤◌, ℤ, pos, ◌+ℤ◌, ◌-ℤ◌, ◌*ℤ◌, List, ◌++◌, length, Option, Some, None, Ok, Err, refl, sym, ap, ap₂, subst, inl}
-use Rattle.std.specs.List.{count_by}
+use Rattle.std.proofs.Common.{◌≡◌, ◌∙◌, ℕ, List, length, Some, None, Err, sym, ap, ap₂, subst}
 use Rattle.std.specs.Prelude.{IsSomeAnd}
 use Rattle.descent.specs.Descents.{after, cut_of}
 use Rattle.descent.specs.Sums.{interval_in, width_of, IsWithin}
-use Rattle.descent.specs.Told.{Tells, told}
+use Rattle.descent.specs.Told.{Tells}
 use Rattle.descent.specs.declared.descents.Answer.{Answer}
-use Rattle.descent.specs.declared.rows.CutRow.{CutRow}
 use Rattle.descent.proofs.Values.{each_cut_holds_the_value}
-use Rattle.interval.specs.Interval.{Has, Interval}
+use Rattle.interval.specs.Interval.{Has}
 use Rattle.segment.specs.Nodes.{IsForest}
 use Rattle.semantics.specs.Admission.{NotAdmitted, high_rank, outside, refusal_of, too_great, unknown}
 use Rattle.semantics.specs.Plain.{IsPlain, plain}
@@ -18,8 +16,8 @@ use Rattle.semantics.proofs.PlainLaws.{query_value-plain}
 use Rattle.store_file.specs.Added.{names_in}
 use Rattle.store_file.specs.Facts.{facts_in}
 use Rattle.store_file.specs.StoreValue.{StoreValue}
-use Rattle.query_cli.specs.Asked.{Asked, IsAnswerOf, IsAnswered, IsIntervalLine, admitted_in, answer_line, cut_line, forest_of, readings_in, roots_in}
-use Rattle.query_cli.specs.Refusals.{Refusal, domain, query_rank, query_refusal, query_unknown, range}
+use Rattle.query_cli.specs.Asked.{Asked, IsAnswerOf, IsAnswered, IsIntervalLine, admitted_in, answer_line, forest_of, readings_in, roots_in}
+use Rattle.query_cli.specs.Refusals.{query_refusal}
 use Rattle.query_cli.specs.Steps.{unless_refused}
 use Rattle.query_cli.specs.Stops.{HasCause, IfRefused, IsNotAdmitted, IsStepRefusal}
 use Rattle.query_cli.specs.declared.stop.Stop.{Stop}

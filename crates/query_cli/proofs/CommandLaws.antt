@@ -8,3 +8,4 @@ pub mod New
 pub mod Once
 pub mod Prove
 pub mod Query
+pub mod Verify

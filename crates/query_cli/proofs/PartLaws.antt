@@ -1,5 +1,5 @@
 -- A query over a store's file that is read in parts.
-use Rattle.std.proofs.Common.{◌≡◌, ◌∙◌, ◌^◌, ◌+◌, ◌*◌, ◌<◌, ◌≤◌, ℕ, zero, suc, ℤ, Bool, true, false, List, [], ◌∷◌, ◌++◌, length, map, get_or, Option, Some, None, Result, Ok, Err, refl, ap, ap₂, sym, subst, arith}
+use Rattle.std.proofs.Common.{◌≡◌, ◌∙◌, ◌^◌, ◌+◌, ◌*◌, ◌<◌, ◌≤◌, ℕ, zero, suc, Bool, true, false, List, [], ◌∷◌, length, Option, Some, None, Result, Ok, Err, refl, ap, sym, subst, arith}
 use Rattle.std.specs.Option.{option_map}
 use Rattle.std.specs.Prelude.{◌≢◌, ◌&&◌, ◌↔◌, nat_lt, if◌then◌else◌}
 use Rattle.std.proofs.lemmas.Bool.{le-ltb, ltb-false, ltb-true}
@@ -15,10 +15,10 @@ use Rattle.lazy_tree.specs.HeaderIn.{Header, header_in}
 use Rattle.lazy_tree.specs.Opened.{Means, Opened, header_len}
 use Rattle.lazy_tree.specs.OpenedLaws.{forest_fits}
 use Rattle.lazy_tree.proofs.RefusalLaws.{decoded-refusal, refusal-decoded}
-use Rattle.segment.specs.Nodes.{Forest, HandsOut, IsForest}
-use Rattle.semantics.specs.Admission.{Fact, NotAdmitted, refusal_of}
+use Rattle.segment.specs.Nodes.{Forest, HandsOut}
+use Rattle.semantics.specs.Admission.{Fact, refusal_of}
 use Rattle.semantics.specs.Files.{Files, IfTold, file_of}
-use Rattle.semantics.specs.Plain.{IsPlain, plain}
+use Rattle.semantics.specs.Plain.{plain}
 use Rattle.semantics.specs.Term.{QueryTerm}
 use Rattle.semantics.proofs.PlainLaws.{IsPlain-plain}
 use Rattle.store_file.specs.Added.{names_in}
@@ -30,7 +30,7 @@ use Rattle.store_file.specs.declared.decoding.StoreErr.TheVariants.{BadNode, Mem
 use Rattle.store_file.proofs.DecodedLaws.{image-decode}
 use Rattle.tree_file.specs.Bytes.{IsBytes}
 use Rattle.query_cli.specs.Asked.{Asked, forest_of, opened_in, roots_in}
-use Rattle.query_cli.specs.Commands.Query.{are_bytes, asked_in, asked_of, asked_of_none, asked_over, parts_size}
+use Rattle.query_cli.specs.Commands.Query.{are_bytes, asked_in, asked_of, asked_of_none, parts_size}
 use Rattle.query_cli.specs.Parted.{AreBad, HandsOver, IsRootKnown, HasHeader, IfStands, IsAnsweredAs, IsAnsweredFor, IsAnsweredOver, IsBad, IsShown, IsThere, IsTold, IsUnopened, Shows}
 use Rattle.query_cli.specs.Reading.{File, Shown, answered, file_at, file_within, held, most_store, no_store, oversized, refused}
 use Rattle.query_cli.specs.Refusals.{Refusal, query_refusal, store_fault}

@@ -3,10 +3,10 @@ use Rattle.std.proofs.Common.{◌≡◌, ℕ, List, Option, Some, None, true, re
 use Rattle.std.specs.Prelude.{◌⊎◌, ◌++◌}
 use Rattle.std.specs.declared.alloc.Global.{Global}
 use Rattle.semantics.specs.Files.{Files, IfTold}
-use Rattle.query_cli.specs.Commands.{Answers, Command, once, new_store, load, append, check, query, prove, gen, is_reader, is_writer, refusal_of}
+use Rattle.query_cli.specs.Commands.{Answers, Command, once, new_store, load, append, check, query, prove, verify, gen, is_reader, is_writer, refusal_of}
 use Rattle.query_cli.specs.Reading.{Shown, reading_with}
 use Rattle.query_cli.specs.Refusals.{Refusal, absent, arena_full, bad_cert, bad_csv, bad_query, bad_script, bad_store, called_for, domain, escapes, not_a_cut, query_rank, query_unknown, range, series_fault, status_of, store_fault, too_big, usage, wide}
-use Rattle.query_cli.specs.Run.{Accepts, Hides, IsCounted, IsDone, IsKeptOrReplayed, IsRefusal, IsRefused, IsStatus, IsText, IsUnrefused, Replies}
+use Rattle.query_cli.specs.Run.{Accepts, Hides, IsCounted, IsDone, IsRefusal, IsRefused, IsStatus, IsText, IsUnrefused, Replies}
 use Rattle.query_cli.specs.Stops.{IfRefused, fault_line, fault_status}
 use Rattle.query_cli.specs.declared.stop.Fault.{Fault}
 use Rattle.query_cli.specs.declared.stop.Fault.TheVariants as fault
@@ -107,6 +107,7 @@ accepted_still m shown (Some (append c)) h = h
 accepted_still m shown (Some (check c)) h = h
 accepted_still m shown (Some (query c)) h = asked_still m shown c h
 accepted_still m shown (Some (prove c)) h = asked_still m shown c h
+accepted_still m shown (Some (verify c)) h = h
 accepted_still m shown (Some (gen c)) h = h
 
 unrefused : (old : Option Files) (command : Option Command) (r : Refusal) (s : Status) → IsRefused old command r → IfTold old (λ m. Accepts m command → IsUnrefused s)

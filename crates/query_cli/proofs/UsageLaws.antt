@@ -1,7 +1,16 @@
 -- What is answered by `usage fault`.
-use Rattle.std.proofs.Common.{◌≡◌, ◌∙◌, ℤ, pos, Bool, true, false, List, ℕ, length, Option, Some, None, Result, Ok, Err, refl}
+use Rattle.std.proofs.Common.{◌≡◌, ◌∙◌, ℤ, Bool, true, false, List, ℕ, Option, Some, None, Result, Ok, Err, refl}
 use Rattle.std.specs.Prelude.{if◌then◌else◌}
 use Rattle.std.specs.Result.{result_err}
+use Rattle.answer_check.specs.Json.{certificate_in}
+use Rattle.answer_check.specs.Verdict.{answer_of}
+use Rattle.answer_check.specs.declared.certificate.Cert.{Cert}
+use Rattle.answer_check.specs.declared.certificate.CertErr.{CertErr}
+use Rattle.answer_check.specs.declared.verdict.Verdict.{Verdict}
+use Rattle.answer_check.specs.declared.verdict.Verdict.TheVariants as verdict
+use Rattle.answer_check.specs.declared.verdict.VerifyErr.{VerifyErr}
+use Rattle.answer_check.specs.declared.verdict.VerifyErr.TheVariants as unverified
+use Rattle.expr.specs.Refusals.{refusal_by}
 use Rattle.semantics.specs.Admission as admission
 use Rattle.semantics.specs.Files.{Files}
 use Rattle.expr_parse.specs.Parsed.{parsed}
@@ -20,7 +29,7 @@ use Rattle.store_file.specs.Last.{last_in}
 use Rattle.store_file.specs.declared.decoding.StoreErr.{StoreErr}
 use Rattle.store_file.specs.declared.decoding.StoreErr.TheVariants as stored
 use Rattle.query_cli.specs.Asked.{admitted_in}
-use Rattle.query_cli.specs.Commands.{Command, append, check, gen, load, new_store, once, prove, query, refusal_of}
+use Rattle.query_cli.specs.Commands.{Command, append, check, gen, load, new_store, once, prove, query, refusal_of, verify}
 use Rattle.query_cli.specs.Commands.Check.{CheckCommand, checked_by}
 use Rattle.query_cli.specs.Commands.Append.{append_by, appended_in}
 use Rattle.query_cli.specs.Commands.Column.{Bringing, Brought, ColumnCommand, brought_by}
@@ -28,10 +37,11 @@ use Rattle.query_cli.specs.Commands.Gen.{GenCommand, roomy_by, roomy_in}
 use Rattle.query_cli.specs.Commands.Load.{load_by, loaded_in}
 use Rattle.query_cli.specs.Commands.Once.{OnceCommand, one_series, sum_query, summed_by, summed_in}
 use Rattle.query_cli.specs.Commands.Query.{QueryCommand, are_bytes, asked_by, asked_in, asked_of, asked_of_none, asked_over, query_in}
+use Rattle.query_cli.specs.Commands.Verify.{VerifyCommand, cert_in, upheld_by, upheld_in, verified_by}
 use Rattle.query_cli.specs.Reading.{File, Reading, Shown, answered, held, missing, no_store, oversized, refused}
 use Rattle.query_cli.specs.Refusals.{Refusal, absent, arena_full, bad_cert, bad_csv, bad_query, bad_script, bad_store, domain, escapes, not_a_cut, query_rank, query_refusal, query_unknown, range, series_fault, status_of, store_fault, too_big, usage, wide}
 use Rattle.query_cli.specs.Run.{IsRefused}
-use Rattle.query_cli.specs.Steps.{and_then, bytes_of, column_in, csv_bytes, last_reading_in, refused_as, room_in, short_in, store_bytes, store_in, unless_refused}
+use Rattle.query_cli.specs.Steps.{and_then, bytes_of, cert_bytes, column_in, csv_bytes, last_reading_in, refused_as, room_in, short_in, store_bytes, store_in, unless_refused}
 use Rattle.query_cli.specs.declared.status.Status.TheVariants as status
 
 -- ---- steps that never answer so
@@ -147,6 +157,29 @@ query_isnt reading c =
     (λ q. behind (store_bytes reading c.store) (λ bytes. asked_in reading.shown q bytes)
     (read c.store (reading.store c.store)) (λ bytes. in_bytes reading.shown q bytes (are_bytes bytes)))
 
+by_verdict : (m : StoreValue) (c : Cert) (x : Result Verdict VerifyErr) → upheld_by m c x ≡ Err usage → ⊥
+by_verdict m c (Ok verdict.Holds) h = cc
+by_verdict m c (Ok (verdict.NotACut place)) h = cc
+by_verdict m c (Ok (verdict.Escapes iv)) h = cc
+by_verdict m c (Ok (verdict.Wide width)) h = cc
+by_verdict m c (Err (unverified.Parse e)) h = cc
+by_verdict m c (Err (unverified.Admit e)) h = admission_isnt (refusal_by e) cc
+by_verdict m c (Err unverified.Memory) h = cc
+
+in_upheld : (stored text : List ℕ) → upheld_in stored text ≡ Err usage → ⊥
+in_upheld stored text =
+    behind (store_in stored) (λ m. and_then (cert_in text) (λ c. upheld_by m c (answer_of m c)))
+    (error {E = StoreErr} bad_store (decode_of stored) (λ e k. cc))
+    (λ m. behind (cert_in text) (λ c. upheld_by m c (answer_of m c))
+    (error {E = CertErr} bad_cert (certificate_in text) (λ e k. cc)) (λ c. by_verdict m c (answer_of m c)))
+
+verify_isnt : (reading : Reading) (c : VerifyCommand) → verified_by reading c ≡ Err usage → ⊥
+verify_isnt reading c =
+    behind (store_bytes reading c.store) (λ stored. and_then (cert_bytes reading c.cert) (λ text. upheld_in stored text))
+    (read c.store (reading.store c.store))
+    (λ stored. behind (cert_bytes reading c.cert) (λ text. upheld_in stored text) (read c.cert (reading.cert c.cert))
+    (in_upheld stored))
+
 gen_isnt : (reading : Reading) (c : GenCommand) → roomy_by reading c ≡ Err usage → ⊥
 gen_isnt reading c =
     behind (store_bytes reading c.store) (λ stored. roomy_in c stored) (read c.store (reading.store c.store))
@@ -186,6 +219,7 @@ is_usage reading (Some (append c)) h = absurd (bring_isnt reading c (append_by c
 is_usage reading (Some (check c)) h = absurd (check_isnt reading c (error_of (checked_by reading c) usage h))
 is_usage reading (Some (query c)) h = absurd (query_isnt reading c (error_of (asked_by reading c) usage h))
 is_usage reading (Some (prove c)) h = absurd (query_isnt reading c (error_of (asked_by reading c) usage h))
+is_usage reading (Some (verify c)) h = absurd (verify_isnt reading c (error_of (verified_by reading c) usage h))
 is_usage reading (Some (gen c)) h = absurd (gen_isnt reading c (error_of (roomy_by reading c) usage h))
 
 pub usage_only : (files : Option Files) (command : Option Command) (r : Refusal) → IsRefused files command r → status_of r ≡ status.Usage → command ≡ None

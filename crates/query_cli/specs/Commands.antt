@@ -8,6 +8,7 @@ pub mod New
 pub mod Once
 pub mod Prove
 pub mod Query
+pub mod Verify
 use Rattle.std.specs.Prelude.{◌≡◌, ℕ, Bool, true, false, List, [], ◌∷◌, codes, map, string_bytes, Option, Some, None, option_map, if◌then◌else◌}
 use Rattle.std.specs.Result.{result_err}
 use Rattle.std.specs.declared.alloc.Global.{Global}
@@ -22,6 +23,7 @@ use Rattle.query_cli.specs.Commands.New.{NewCommand, files_after_new, new_line, 
 use Rattle.query_cli.specs.Commands.Once.{OnceCommand, OnceAnswers, once_of, summed_by}
 use Rattle.query_cli.specs.Commands.Prove.{ProveAnswers, ProveHands}
 use Rattle.query_cli.specs.Commands.Query.{QueryCommand, QueryAnswers, QueryHands, asked_by, query_of, query_reads}
+use Rattle.query_cli.specs.Commands.Verify.{VerifyAnswers, VerifyCommand, verified_by, verify_of, verify_reads}
 use Rattle.query_cli.specs.Reading.{Reading, reading_in}
 use Rattle.query_cli.specs.Refusals.{Refusal, usage}
 use Rattle.query_cli.specs.Replay.{Stands, begins}
@@ -35,6 +37,7 @@ pub data Command : Type 0 where
   check : CheckCommand → Command
   query : QueryCommand → Command
   prove : QueryCommand → Command
+  verify : VerifyCommand → Command
   gen : GenCommand → Command
 
 -- the command that the words spell
@@ -47,6 +50,7 @@ command_of words =
     else if has_form words (codes "check") 2 then option_map check (check_of words)
     else if has_form words (codes "query") 4 then option_map query (query_of words)
     else if has_form words (codes "prove") 4 then option_map prove (query_of words)
+    else if has_form words (codes "verify") 3 then option_map verify (verify_of words)
     else if has_form words (codes "gen") 5 then option_map gen (gen_of words)
     else None
 
@@ -64,6 +68,7 @@ refusal_of reading (Some (append c)) = result_err (brought_by reading c (append_
 refusal_of reading (Some (check c)) = result_err (checked_by reading c)
 refusal_of reading (Some (query c)) = result_err (asked_by reading c)
 refusal_of reading (Some (prove c)) = result_err (asked_by reading c)
+refusal_of reading (Some (verify c)) = result_err (verified_by reading c)
 refusal_of reading (Some (gen c)) = result_err (roomy_by reading c)
 
 -- the text of the answer, where nothing is refused
@@ -76,6 +81,7 @@ Answers reading (Some (append c)) text = ColumnAnswers reading c (append_by c) t
 Answers reading (Some (check c)) text = CheckAnswers reading c text
 Answers reading (Some (query c)) text = QueryAnswers reading c text
 Answers reading (Some (prove c)) text = ProveAnswers reading c text
+Answers reading (Some (verify c)) text = VerifyAnswers reading c text
 Answers reading (Some (gen c)) text = GenAnswers reading c text
 
 -- whether files are read
@@ -88,6 +94,7 @@ is_reader (Some (append c)) = true
 is_reader (Some (check c)) = true
 is_reader (Some (query c)) = query_reads c
 is_reader (Some (prove c)) = query_reads c
+is_reader (Some (verify c)) = true
 is_reader (Some (gen c)) = true
 
 -- how many files are read whole: none behind the first refusal
@@ -100,6 +107,7 @@ reads_of reading (Some (append c)) = column_reads reading c
 reads_of reading (Some (check c)) = 1
 reads_of reading (Some (query c)) = 0
 reads_of reading (Some (prove c)) = 0
+reads_of reading (Some (verify c)) = verify_reads reading c
 reads_of reading (Some (gen c)) = 1
 
 -- how many bytes of files are handed out in parts, by the text of the answer
@@ -118,6 +126,7 @@ is_writer (Some (append c)) = true
 is_writer (Some (check c)) = false
 is_writer (Some (query c)) = false
 is_writer (Some (prove c)) = false
+is_writer (Some (verify c)) = false
 is_writer (Some (gen c)) = true
 
 -- what becomes of the files; a command that is refused leaves them
@@ -132,6 +141,7 @@ files_after files (Some (append c)) =
 files_after files (Some (check c)) = files
 files_after files (Some (query c)) = files
 files_after files (Some (prove c)) = files
+files_after files (Some (verify c)) = files
 files_after files (Some (gen c)) = files_after_gen files c (roomy_by (reading_in files) c)
 
 -- what becomes of the store for which STORE stood, and of its history, once STORE is written
@@ -145,4 +155,5 @@ IsReplayed old (Some (append c)) now = ColumnReplays old c (append_by c) now
 IsReplayed old (Some (check c)) now = ⊥
 IsReplayed old (Some (query c)) now = ⊥
 IsReplayed old (Some (prove c)) now = ⊥
+IsReplayed old (Some (verify c)) now = ⊥
 IsReplayed old (Some (gen c)) now = GenReplays old c now

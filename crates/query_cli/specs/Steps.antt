@@ -36,6 +36,9 @@ csv_bytes reading name = bytes_of name (reading.csv name)
 abbrev pub store_bytes : Reading → List ℕ → Result (List ℕ) Refusal
 store_bytes reading name = bytes_of name (reading.store name)
 
+abbrev pub cert_bytes : Reading → List ℕ → Result (List ℕ) Refusal
+cert_bytes reading name = bytes_of name (reading.cert name)
+
 -- the store for which bytes stand
 abbrev pub store_in : List ℕ → Result StoreValue Refusal
 store_in bytes = refused_as bad_store (decode_of bytes)

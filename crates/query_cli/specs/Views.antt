@@ -1,11 +1,12 @@
 -- Commands and refusals without where their words lie.
-use Rattle.query_cli.specs.Commands.{Command, once, new_store, load, append, check, query, prove, gen}
+use Rattle.query_cli.specs.Commands.{Command, once, new_store, load, append, check, query, prove, verify, gen}
 use Rattle.query_cli.specs.Commands.Once.{OnceCommand}
 use Rattle.query_cli.specs.Commands.New.{NewCommand}
 use Rattle.query_cli.specs.Commands.Column.{ColumnCommand}
 use Rattle.query_cli.specs.Commands.Check.{CheckCommand}
 use Rattle.query_cli.specs.Commands.Query.{QueryCommand}
 use Rattle.query_cli.specs.Commands.Gen.{GenCommand}
+use Rattle.query_cli.specs.Commands.Verify.{VerifyCommand}
 use Rattle.query_cli.specs.Refusals.{Refusal, usage, absent, too_big, bad_csv, bad_store, series_fault, domain, bad_query, query_rank, query_unknown, store_fault, range, not_a_cut, escapes, wide, bad_cert, bad_script, arena_full}
 use Rattle.query_cli.specs.declared.commands.Command.{Command as CommandCode}
 use Rattle.query_cli.specs.declared.commands.Command.TheVariants as command
@@ -18,6 +19,7 @@ use Rattle.query_cli.specs.declared.commands.check.Check.{Check}
 use Rattle.query_cli.specs.declared.commands.prove.Prove.{Prove}
 use Rattle.query_cli.specs.declared.commands.query.Query.{Query}
 use Rattle.query_cli.specs.declared.steps.question.Question.{Question}
+use Rattle.query_cli.specs.declared.commands.verify.Verify.{Verify}
 use Rattle.query_cli.specs.declared.commands.generate.Gen.{Gen}
 use Rattle.query_cli.specs.declared.refusals.Refusal.{Refusal as RefusalCode}
 use Rattle.query_cli.specs.declared.refusals.Refusal.TheVariants as refusal
@@ -56,6 +58,9 @@ query_view q = question_view q.0
 abbrev pub prove_view : Prove → QueryCommand
 prove_view p = question_view p.0
 
+abbrev pub verify_view : Verify → VerifyCommand
+verify_view v = record { store = v.store.now; cert = v.cert.now }
+
 abbrev pub gen_view : Gen → GenCommand
 gen_view g = record { store = g.store.now; name = g.name; count = g.count; seed = g.seed }
 
@@ -67,6 +72,7 @@ command_view (command.Append a) = append (append_view a)
 command_view (command.Check c) = check (check_view c)
 command_view (command.Query q) = query (query_view q)
 command_view (command.Prove p) = prove (prove_view p)
+command_view (command.Verify v) = verify (verify_view v)
 command_view (command.Gen g) = gen (gen_view g)
 
 abbrev pub refusal_view : RefusalCode → Refusal

@@ -16,6 +16,7 @@ mod new;
 mod once;
 mod prove;
 mod query;
+mod verify;
 
 use crate::refusals::Refusal;
 use crate::stop::{Fault, Halt, refuse};
@@ -33,6 +34,7 @@ pub(crate) enum Command<'a> {
     Check(check::Check<'a>),
     Query(query::Query<'a>),
     Prove(prove::Prove<'a>),
+    Verify(verify::Verify<'a>),
     Gen(generate::Gen<'a>),
 }
 
@@ -61,6 +63,9 @@ pub(crate) fn read_command(words: &[String]) -> Option<Command<'_>>
     }
     if is_form(words, "prove", 4) {
         return prove::Prove::read(words);
+    }
+    if is_form(words, "verify", 3) {
+        return verify::Verify::read(words);
     }
     if is_form(words, "gen", 5) {
         return generate::Gen::read(words);
@@ -100,6 +105,7 @@ pub(crate) fn answer<S: Shelf>(
         Some(Command::Check(check)) => check.answer(alloc, shelf),
         Some(Command::Query(query)) => query.answer(alloc, shelf),
         Some(Command::Prove(prove)) => prove.answer(alloc, shelf),
+        Some(Command::Verify(verify)) => verify.answer(alloc, shelf),
         Some(Command::Gen(generate)) => generate.answer(alloc, shelf),
     }
 }

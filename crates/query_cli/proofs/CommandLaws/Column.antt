@@ -1,5 +1,5 @@
 -- `load` and `append` over their files.
-use Rattle.std.proofs.Common.{◌≡◌, ◌∙◌, ◌+◌, ◌≤◌, ℕ, ℤ, List, [], ◌∷◌, ◌++◌, Option, Some, None, Result, Ok, Err, refl, sym, ap, subst, inr, arith}
+use Rattle.std.proofs.Common.{◌≡◌, ◌∙◌, ◌≤◌, ℕ, ℤ, List, Option, Some, None, Result, Ok, Err, refl, sym, ap, subst, inr, arith}
 use Rattle.std.specs.Result.{result_err}
 use Rattle.outside.specs.Parts.{RisesBy}
 use Rattle.semantics.specs.Files.{Files, IfTold, file_of, with_file}
@@ -7,18 +7,18 @@ use Rattle.series_csv.specs.Column.{column_of}
 use Rattle.store_file.specs.StoreValue.{StoreValue, IsStoreValue, store_image}
 use Rattle.store_file.proofs.ImageLaws.{images-differ}
 use Rattle.query_cli.specs.Commands.{Answers, Command, IsReplayed, files_after, refusal_of}
-use Rattle.query_cli.specs.Commands.Column.{Bringing, Brings, Brought, ColumnAnswers, ColumnCommand, ColumnReplays, GoesOn, StepsTo, behind_store, brought_by, column_reads, files_after_column, store_after}
+use Rattle.query_cli.specs.Commands.Column.{Bringing, Brings, ColumnAnswers, ColumnCommand, ColumnReplays, GoesOn, StepsTo, behind_store, brought_by, files_after_column}
 use Rattle.query_cli.specs.Reading.{File, Reading, file_at, held, missing, most_csv, most_store, reading_in}
 use Rattle.query_cli.specs.Refusals.{Refusal}
-use Rattle.query_cli.specs.Replay.{Accepted, replay, step, IsAccepted, IsColumnOf, IsHistory}
+use Rattle.query_cli.specs.Replay.{Accepted, replay, step, IsAccepted, IsHistory}
 use Rattle.query_cli.specs.Run.{Accepts, IsDone, IsRefused}
 use Rattle.query_cli.specs.Shelf.{RoseAtMost}
-use Rattle.query_cli.specs.Steps.{and_then, bytes_of}
+use Rattle.query_cli.specs.Steps.{and_then, bytes_of, store_bytes}
 use Rattle.query_cli.specs.Stops.{IfRefused, IfStopped, IsStepRefusal, IsUnread}
 use Rattle.query_cli.specs.declared.stop.Halt.{Halt}
 use Rattle.query_cli.specs.declared.stop.Stop.{Stop}
 use Rattle.query_cli.proofs.ReplayLaws.{IsHistory-more, histories-make-stores, replay-more}
-use Rattle.query_cli.proofs.StepLaws.{came, came-csv, came-read, came-refused, came-store, csv-unread, file_at-held, rose-once, rose-twice, store-unread}
+use Rattle.query_cli.proofs.StepLaws.{came, came-csv, came-refused, came-store, csv-unread, file_at-held, rose-once, rose-twice, store-unread}
 
 -- the command brings a column so
 pub record IsBringing (command : Option Command) (c : ColumnCommand) (w : Bringing) : Type 0 where
@@ -74,20 +74,23 @@ accepted command c w (Some m) stored text line bytes is read b = is.refusal (rea
 
 -- ---- how many files are read
 
-pub reads_one : (c : ColumnCommand) (files : Option Files) (before now : Option ℕ) → RisesBy 1 before now → IfTold files (λ m. RoseAtMost (column_reads (reading_in m) c) before now)
-reads_one c None before now rises = tt
-reads_one c (Some m) before now rises = rose-once (column_reads (reading_in m) c) before now (some (bytes_of c.store (file_at m most_store c.store))) rises
+pub reads_one : (store : List ℕ) (files : Option Files) (before now : Option ℕ) → RisesBy 1 before now
+    → IfTold files (λ m. RoseAtMost (behind_store (store_bytes (reading_in m) store)) before now)
+reads_one store None before now rises = tt
+reads_one store (Some m) before now rises =
+    rose-once (behind_store (store_bytes (reading_in m) store)) before now (some (store_bytes (reading_in m) store)) rises
   where
     some : (x : Result (List ℕ) Refusal) → 1 ≤ behind_store x
     some (Ok stored) = omega arith
     some (Err r) = omega arith
 
-pub reads_two : (c : ColumnCommand) (files : Option Files) (stored : List ℕ) (before between now : Option ℕ) → IfTold files (λ m. file_at m most_store c.store ≡ held stored)
-    → RisesBy 1 before between → RisesBy 1 between now → IfTold files (λ m. RoseAtMost (column_reads (reading_in m) c) before now)
-reads_two c None stored before between now told first second = tt
-reads_two c (Some m) stored before between now told first second =
-    let two : column_reads (reading_in m) c ≡ 2 = ap (λ f. behind_store (bytes_of c.store f)) told in
-    rose-twice (column_reads (reading_in m) c) before between now (omega (arith, two)) first second
+pub reads_two : (store : List ℕ) (files : Option Files) (stored : List ℕ) (before between now : Option ℕ)
+    → IfTold files (λ m. file_at m most_store store ≡ held stored) → RisesBy 1 before between → RisesBy 1 between now
+    → IfTold files (λ m. RoseAtMost (behind_store (store_bytes (reading_in m) store)) before now)
+reads_two store None stored before between now told first second = tt
+reads_two store (Some m) stored before between now told first second =
+    let two : behind_store (store_bytes (reading_in m) store) ≡ 2 = ap (λ f. behind_store (bytes_of store f)) told in
+    rose-twice (behind_store (store_bytes (reading_in m) store)) before between now (omega (arith, two)) first second
 
 -- ---- what it comes to
 

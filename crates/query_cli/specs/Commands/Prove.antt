@@ -1,5 +1,5 @@
 -- `prove`: the certificate of what a query comes to over the series of a store.
-use Rattle.std.specs.Prelude.{◌≡◌, ◌++◌, ℕ, List, codes, Option, Some, None, Result, Ok}
+use Rattle.std.specs.Prelude.{◌≡◌, ◌++◌, ℕ, List, codes, Option, Some, None, Ok}
 use Rattle.answer_check.specs.Certificate.{cert_text, certificate_for}
 use Rattle.answer_check.specs.declared.certificate.Cert.{Cert}
 use Rattle.descent.specs.declared.descents.Answer.{Answer}

@@ -41,7 +41,8 @@ fn trees_of(alloc: Global, series: &IndexMap<Name, Stored>) -> Result<Vec<Tree>,
     series.values().map(|stored| stored.tree).collect(alloc)
 }
 
-fn not_admitted(alloc: Global, e: &AdmitErr) -> Stop
+/// Why a query is not admitted.
+pub(crate) fn not_admitted(alloc: Global, e: &AdmitErr) -> Stop
     ensures { IfRefused result (λ r. r ≡ query_refusal (refusal_by e.now)) }
 {
     match e {

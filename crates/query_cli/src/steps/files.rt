@@ -14,6 +14,9 @@ use std::alloc::Global;
 /// The most bytes of a CSV file.
 pub(crate) const MOST_CSV: u64 = 1 << 26;
 
+/// The most bytes of a certificate.
+pub(crate) const MOST_CERT: u64 = 1 << 26;
+
 /// The most bytes of a store.
 pub(crate) const MOST_STORE: u64 = 1 << 28;
 

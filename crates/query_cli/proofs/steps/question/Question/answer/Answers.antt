@@ -1,7 +1,6 @@
-use Rattle.std.proofs.Common.{◌≡◌, ◌∙◌, Ok, ap, subst, sym}
+use Rattle.std.proofs.Common.{◌∙◌, Ok, ap, subst, sym}
 use Rattle.std.proofs.lemmas.Result.{err_from_is_err_and}
 use Rattle.expr.specs.Terms.{query_term_of}
-use Rattle.query_cli.specs.Commands.Query.{query_in}
 use Rattle.query_cli.specs.Parted.{HandsOver, IsFound}
 use Rattle.query_cli.specs.Views.{question_view}
 use Rattle.query_cli.proofs.QuestionLaws.{bad_text, found, shown_refused}

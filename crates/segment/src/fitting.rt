@@ -76,11 +76,12 @@ fn line_fit(xs: &[i32], d: u64) -> Ranked
     ensures miss { result.miss ≡ miss result.curve xs.now }
     ensures bounded { IsBounded result.curve (length xs.now) (greatest_reading xs.now) }
 {
-    let lower = level_fit(xs);
+    let sum = total(xs, 0, xs.len());
+    let lower = flat_fit(xs, sum);
     if xs.len() < 2 {
         return lower;
     }
-    let line = line(xs, d);
+    let line = line(xs, sum, d);
     better_of(xs, lower, line)
 }
 
@@ -93,7 +94,22 @@ fn level_fit(xs: &[i32]) -> Ranked
     ensures miss { result.miss ≡ miss result.curve xs.now }
     ensures bounded { IsBounded result.curve (length xs.now) (greatest_reading xs.now) }
 {
-    let curve = flat(xs);
+    let sum = total(xs, 0, xs.len());
+    flat_fit(xs, sum)
+}
+
+/// The same by the sum of the readings.
+fn flat_fit(xs: &[i32], sum: i64) -> Ranked
+    requires some { 0 < length xs.now }
+    requires few { length xs.now ≤ 2 ^ 20 }
+    requires small { AreReadings xs.now }
+    requires total { sum ≡ total_below (in_block xs.now 0) (length xs.now) }
+    requires near { unsigned_abs sum ≤ length xs.now * 10 ^ 9 }
+    ensures curve { result.curve ≡ flat_of xs.now }
+    ensures miss { result.miss ≡ miss result.curve xs.now }
+    ensures bounded { IsBounded result.curve (length xs.now) (greatest_reading xs.now) }
+{
+    let curve = flat(xs, sum);
     let miss = miss(xs, &curve);
     Ranked { curve, miss }
 }
@@ -119,29 +135,33 @@ fn better_of(xs: &[i32], best: Ranked, other: Option<Curve>) -> Ranked
 }
 
 /// The curve of degree 0: the mean, rounded down.
-fn flat(xs: &[i32]) -> Curve
+fn flat(xs: &[i32], sum: i64) -> Curve
     requires some { 0 < length xs.now }
     requires few { length xs.now ≤ 2 ^ 20 }
     requires small { AreReadings xs.now }
+    requires total { sum ≡ total_below (in_block xs.now 0) (length xs.now) }
+    requires near { unsigned_abs sum ≤ length xs.now * 10 ^ 9 }
     ensures curve { result ≡ flat_of xs.now }
     ensures bounded { IsBounded result (length xs.now) (greatest_reading xs.now) }
 {
-    let a = mean(total(xs, 0, xs.len()), xs.len());
+    let a = mean(sum, xs.len());
     Curve { a, b: 0, c: 0 }
 }
 
 /// The line through the readings, where it keeps the bound.
-fn line(xs: &[i32], d: u64) -> Option<Curve>
+fn line(xs: &[i32], sum: i64, d: u64) -> Option<Curve>
     requires some { 2 ≤ length xs.now }
     requires few { length xs.now ≤ 2 ^ 20 }
     requires small { AreReadings xs.now }
+    requires total { sum ≡ total_below (in_block xs.now 0) (length xs.now) }
+    requires near { unsigned_abs sum ≤ length xs.now * 10 ^ 9 }
     requires most { d ≡ greatest_reading xs.now }
     requires magnitude { d ≤ 10 ^ 9 }
     ensures curve { result ≡ kept (length xs.now) d (line_of xs.now) }
     ensures bounded { IfSome result (λ q. IsBounded q (length xs.now) (greatest_reading xs.now)) }
 {
     let n = xs.len();
-    let sum = scaled_total(xs);
+    let sum = scaled_total(xs, sum);
     let moment = scaled_moment(xs);
     through(n, sum, moment, 0, d)
 }
@@ -167,15 +187,17 @@ fn parabola(xs: &[i32], d: u64) -> Option<Curve>
     through(n, sum, moment, bend as i64, d)
 }
 
-/// The sum of the values.
-fn scaled_total(xs: &[i32]) -> i128
+/// The sum of the values, by that of the readings.
+fn scaled_total(xs: &[i32], sum: i64) -> i128
     requires few { length xs.now ≤ 2 ^ 20 }
     requires small { AreReadings xs.now }
+    requires total { sum ≡ total_below (in_block xs.now 0) (length xs.now) }
+    requires near { unsigned_abs sum ≤ length xs.now * 10 ^ 9 }
     ensures value { result ≡ total_below (scaled xs.now) (length xs.now) }
     ensures bound { unsigned_abs result ≤ 2 ^ 64 }
 {
-    let sum = i128::from(total(xs, 0, xs.len()));
-    scaled_up(sum)
+    let wide = i128::from(sum);
+    scaled_up(wide)
 }
 
 /// The sum of the values, each times its place.
@@ -197,7 +219,7 @@ fn straight_total(xs: &[i32], bend: i128) -> i128
     ensures value { result ≡ total_below (straightened xs.now bend) (length xs.now) }
     ensures bound { unsigned_abs result ≤ 2 ^ 68 }
 {
-    let sum = scaled_total(xs);
+    let sum = scaled_total(xs, total(xs, 0, xs.len()));
     let squares = power(2, xs.len() as u64);
     less(sum, bend, squares)
 }

@@ -19,12 +19,10 @@ flat_bounded xs some = record { constant = omega (arith, flat-le xs some); linea
 
 pub returns-clause-curve : goal.returns-clause-curve
 returns-clause-curve c =
-    let f : SFits w64 c.total.result = search rules in
     let g : SFits w64 c.mean-a.result = search rules in
-    rw (to_z-of_z w64 c.mean-a.result g) (level_is c.args.xs.now c.total.result c.mean-a.result c.total.ensures.value (rw (to_z-of_z w64 c.total.result f) at c.mean-a.ensures.value))
+    rw (to_z-of_z w64 c.mean-a.result g) (level_is c.args.xs.now c.args.sum c.mean-a.result c.requires.total (rw (to_z-of_z w64 c.args.sum c.ranges.sum) at c.mean-a.ensures.value))
 
 pub returns-clause-bounded : goal.returns-clause-bounded
 returns-clause-bounded c =
-    let f : SFits w64 c.total.result = search rules in
     let g : SFits w64 c.mean-a.result = search rules in
-    rw (to_z-of_z w64 c.mean-a.result g, level_is c.args.xs.now c.total.result c.mean-a.result c.total.ensures.value (rw (to_z-of_z w64 c.total.result f) at c.mean-a.ensures.value)) (flat_bounded c.args.xs.now c.requires.some)
+    rw (to_z-of_z w64 c.mean-a.result g, level_is c.args.xs.now c.args.sum c.mean-a.result c.requires.total (rw (to_z-of_z w64 c.args.sum c.ranges.sum) at c.mean-a.ensures.value)) (flat_bounded c.args.xs.now c.requires.some)

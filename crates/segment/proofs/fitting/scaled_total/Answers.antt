@@ -7,8 +7,7 @@ use Rattle.segment.proofs.fitting.scaled_total.Goals as goal
 
 pub returns-clause-value : goal.returns-clause-value
 returns-clause-value c =
-    let t : SFits w64 c.total.result = search rules in
-    let s : SFits w128 c.from-sum.result = search rules in
+    let s : SFits w128 c.from-wide.result = search rules in
     let f : SFits w128 c.scaled_up.result = search rules in
-    let sum = c.from-sum.ensures ∙ to_z-of_z w64 c.total.result t ∙ c.total.ensures.value ∙ in_block-all c.args.xs.now (length c.args.xs.now) in
-    to_z-of_z w128 c.scaled_up.result f ∙ c.scaled_up.ensures.value ∙ ap (λ z. pos unit *ℤ z) (to_z-of_z w128 c.from-sum.result s ∙ sum) ∙ sym (total-scaled c.args.xs.now (length c.args.xs.now))
+    let sum = c.from-wide.ensures ∙ to_z-of_z w64 c.args.sum c.ranges.sum ∙ c.requires.total ∙ in_block-all c.args.xs.now (length c.args.xs.now) in
+    to_z-of_z w128 c.scaled_up.result f ∙ c.scaled_up.ensures.value ∙ ap (λ z. pos unit *ℤ z) (to_z-of_z w128 c.from-wide.result s ∙ sum) ∙ sym (total-scaled c.args.xs.now (length c.args.xs.now))

@@ -9,6 +9,5 @@ pub mod QuestionLaws
 pub mod ReplayLaws
 pub mod RunLaws
 pub mod StepLaws
-pub mod StoreNodes
 pub mod UsageLaws
 pub mod WordLaws

@@ -1,43 +1,54 @@
-use Rattle.std.proofs.Common.{◌∙◌, subst, sym}
+use Rattle.std.proofs.Common.{◌≡◌, ◌∙◌, ap, subst, sym}
 use Rattle.expr.specs.Terms.{query_term_of}
+use Rattle.descent.specs.Descents.{Nodes}
 use Rattle.descent.specs.Told.{Tells}
-use Rattle.store_file.specs.Stored.{IsSound, store_value}
+use Rattle.seg_tree.specs.Reached.{forest_of}
+use Rattle.sessions.specs.Hub.{first_nodes}
+use Rattle.sessions.specs.Kept.{trees_of}
+use Rattle.sessions.proofs.SessionLaws.{means_own}
+use Rattle.sessions.proofs.SteadyLaw.{series_forest}
+use Rattle.sessions.proofs.StoreNodes.{are_handed, handed_admitted, handed_all, handed_apart, handed_by, handed_known, handed_roots, values_same}
+use Rattle.store_file.specs.Stored.{StoreParts, store_value}
+use Rattle.store_file.proofs.StoredLaws.{view-value}
+use Rattle.query_cli.specs.Asked.{roots_in}
 use Rattle.query_cli.proofs.AskedLaws.{holds}
-use Rattle.query_cli.proofs.StoreNodes.{Handed, admitted_nodes, arena_trees, known_roots, names_apart, same_roots, store_forest}
 use Rattle.query_cli.proofs.steps.asked.descent_over.Goals as goal
 
 pub new-nodes-requires-clause-of_arena : goal.new-nodes-requires-clause-of_arena
 new-nodes-requires-clause-of_arena c =
-    arena_trees _ _ c.deref.result.now c.store.invariant (record { names_are = c.in_ok-names.ensures; trees_are = c.deref.ensures.value ∙ c.in_ok-trees.ensures })
+    (are_handed _ c.args.store.now c.deref.result.now c.store.view_is c.store.invariant (c.deref.ensures.value ∙ c.in_ok-trees.ensures ∙ values_same c.store.inside.series.entries ∙ ap trees_of c.store.view_is)).all
 
 pub descend-requires-clause-apart : goal.descend-requires-clause-apart
 descend-requires-clause-apart c =
-    names_apart _ c.deref-2.result.now c.deref.result.now c.store.invariant
-    (record { names_are = c.deref-2.ensures.value ∙ c.in_ok-names.ensures; trees_are = c.deref.ensures.value ∙ c.in_ok-trees.ensures })
+    let trees = c.new-nodes.ensures.trees ∙ c.deref.ensures.value ∙ c.in_ok-trees.ensures ∙ values_same c.store.inside.series.entries ∙ ap trees_of c.store.view_is in
+    handed_apart c.args.store.now c.deref-2.result.now c.new-nodes.result
+    (handed_by _ c.args.store.now c.deref-2.result.now c.new-nodes.result c.store.view_is c.store.invariant (c.deref-2.ensures.value ∙ c.in_ok-names.ensures) c.new-nodes.ensures.nodes trees)
 
 pub descend-requires-clause-known : goal.descend-requires-clause-known
 descend-requires-clause-known c =
-    known_roots (query_term_of c.args.q.now) _ c.deref-2.result.now c.deref.result.now c.new-nodes.result c.store.invariant
-    (record { names_are = c.deref-2.ensures.value ∙ c.in_ok-names.ensures; trees_are = c.deref.ensures.value ∙ c.in_ok-trees.ensures })
-    c.new-nodes.ensures.nodes c.new-nodes.ensures.trees
+    let trees = c.new-nodes.ensures.trees ∙ c.deref.ensures.value ∙ c.in_ok-trees.ensures ∙ values_same c.store.inside.series.entries ∙ ap trees_of c.store.view_is in
+    handed_known (query_term_of c.args.q.now) c.args.store.now c.deref-2.result.now c.new-nodes.result
+    (handed_by _ c.args.store.now c.deref-2.result.now c.new-nodes.result c.store.view_is c.store.invariant (c.deref-2.ensures.value ∙ c.in_ok-names.ensures) c.new-nodes.ensures.nodes trees)
 
 pub descend-requires-clause-admitted : goal.descend-requires-clause-admitted
 descend-requires-clause-admitted c =
-    admitted_nodes (query_term_of c.args.q.now) _ c.args.store.now c.deref-2.result.now c.deref.result.now c.new-nodes.result c.store.view_is c.store.invariant
-    (record { names_are = c.deref-2.ensures.value ∙ c.in_ok-names.ensures; trees_are = c.deref.ensures.value ∙ c.in_ok-trees.ensures })
-    c.new-nodes.ensures.nodes c.new-nodes.ensures.trees c.requires.admitted
+    let trees = c.new-nodes.ensures.trees ∙ c.deref.ensures.value ∙ c.in_ok-trees.ensures ∙ values_same c.store.inside.series.entries ∙ ap trees_of c.store.view_is in
+    handed_admitted (query_term_of c.args.q.now) c.args.store.now c.deref-2.result.now c.new-nodes.result
+    (handed_by _ c.args.store.now c.deref-2.result.now c.new-nodes.result c.store.view_is c.store.invariant (c.deref-2.ensures.value ∙ c.in_ok-names.ensures) c.new-nodes.ensures.nodes trees)
+    c.requires.admitted
 
 pub returns-in-Ok-clause-told : goal.returns-in-Ok-clause-told
+unfolding first_nodes
 returns-in-Ok-clause-told c =
     let q = query_term_of c.args.q.now in
-    let same = same_roots q _ c.args.store.now c.deref-2.result.now c.deref.result.now c.store.view_is
-    (record { names_are = c.deref-2.ensures.value ∙ c.in_ok-names.ensures; trees_are = c.deref.ensures.value ∙ c.in_ok-trees.ensures }) in
-    subst (λ first. Tells q first c.args.budget c.in-Ok.answer) same (c.in-Ok.ensures.last _ c.new-nodes.ensures.means)
+    let r = c.new-nodes.result in
+    let trees = c.new-nodes.ensures.trees ∙ c.deref.ensures.value ∙ c.in_ok-trees.ensures ∙ values_same c.store.inside.series.entries ∙ ap trees_of c.store.view_is in
+    let h = handed_by _ c.args.store.now c.deref-2.result.now r c.store.view_is c.store.invariant (c.deref-2.ensures.value ∙ c.in_ok-names.ensures) c.new-nodes.ensures.nodes trees in
+    subst (λ (first : Nodes). Tells q first c.args.budget c.in-Ok.answer) (handed_roots q c.args.store.now c.deref-2.result.now r h)
+    (c.in-Ok.ensures.last (forest_of r) (means_own r (handed_all c.args.store.now c.deref-2.result.now r h)))
 
 pub returns-in-Ok-clause-holds : goal.returns-in-Ok-clause-holds
 returns-in-Ok-clause-holds c =
-    let q = query_term_of c.args.q.now in
-    let same = same_roots q _ c.args.store.now c.deref-2.result.now c.deref.result.now c.store.view_is
-    (record { names_are = c.deref-2.ensures.value ∙ c.in_ok-names.ensures; trees_are = c.deref.ensures.value ∙ c.in_ok-trees.ensures }) in
-    holds q (store_value c.args.store.now) _ c.args.budget c.in-Ok.answer (store_forest c.args.store.now (subst IsSound c.store.view_is c.store.invariant)) c.requires.plain
-    (subst (λ first. Tells q first c.args.budget c.in-Ok.answer) same (c.in-Ok.ensures.last _ c.new-nodes.ensures.means))
+    let m = store_value c.args.store.now in
+    holds (query_term_of c.args.q.now) m _ c.args.budget c.in-Ok.answer (series_forest m.series (view-value _ c.args.store.now c.store.view_is c.store.invariant).trees) c.requires.plain
+    (returns-in-Ok-clause-told c)

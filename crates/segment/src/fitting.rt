@@ -57,11 +57,13 @@ fn parabola_fit(xs: &[i32], d: u64) -> Ranked
     ensures miss { result.miss ≡ miss result.curve xs.now }
     ensures bounded { IsBounded result.curve (length xs.now) (greatest_reading xs.now) }
 {
-    let lower = line_fit(xs, d);
+    let sum = total(xs, 0, xs.len());
+    let moment = moment(xs);
+    let lower = straight_fit(xs, sum, moment, d);
     if xs.len() < 3 {
         return lower;
     }
-    let parabola = parabola(xs, d);
+    let parabola = parabola(xs, sum, moment, d);
     better_of(xs, lower, parabola)
 }
 
@@ -77,11 +79,30 @@ fn line_fit(xs: &[i32], d: u64) -> Ranked
     ensures bounded { IsBounded result.curve (length xs.now) (greatest_reading xs.now) }
 {
     let sum = total(xs, 0, xs.len());
+    let moment = moment(xs);
+    straight_fit(xs, sum, moment, d)
+}
+
+/// The same by the sum of the readings and that of their moments.
+fn straight_fit(xs: &[i32], sum: i64, moment: i128, d: u64) -> Ranked
+    requires some { 0 < length xs.now }
+    requires few { length xs.now ≤ 2 ^ 20 }
+    requires small { AreReadings xs.now }
+    requires total { sum ≡ total_below (in_block xs.now 0) (length xs.now) }
+    requires near { unsigned_abs sum ≤ length xs.now * 10 ^ 9 }
+    requires moment { moment ≡ total_below (moment_at (reading xs.now)) (length xs.now) }
+    requires moderate { unsigned_abs moment ≤ length xs.now * 2 ^ 50 }
+    requires most { d ≡ greatest_reading xs.now }
+    requires magnitude { d ≤ 10 ^ 9 }
+    ensures curve { result.curve ≡ with_line xs.now }
+    ensures miss { result.miss ≡ miss result.curve xs.now }
+    ensures bounded { IsBounded result.curve (length xs.now) (greatest_reading xs.now) }
+{
     let lower = flat_fit(xs, sum);
     if xs.len() < 2 {
         return lower;
     }
-    let line = line(xs, sum, d);
+    let line = line(xs, sum, moment, d);
     better_of(xs, lower, line)
 }
 
@@ -148,13 +169,15 @@ fn flat(xs: &[i32], sum: i64) -> Curve
     Curve { a, b: 0, c: 0 }
 }
 
-/// The line through the readings, where it keeps the bound.
-fn line(xs: &[i32], sum: i64, d: u64) -> Option<Curve>
+/// The line through the readings, by their sum and that of their moments, where it keeps the bound.
+fn line(xs: &[i32], sum: i64, moment: i128, d: u64) -> Option<Curve>
     requires some { 2 ≤ length xs.now }
     requires few { length xs.now ≤ 2 ^ 20 }
     requires small { AreReadings xs.now }
     requires total { sum ≡ total_below (in_block xs.now 0) (length xs.now) }
     requires near { unsigned_abs sum ≤ length xs.now * 10 ^ 9 }
+    requires moment { moment ≡ total_below (moment_at (reading xs.now)) (length xs.now) }
+    requires moderate { unsigned_abs moment ≤ length xs.now * 2 ^ 50 }
     requires most { d ≡ greatest_reading xs.now }
     requires magnitude { d ≤ 10 ^ 9 }
     ensures curve { result ≡ kept (length xs.now) d (line_of xs.now) }
@@ -162,15 +185,19 @@ fn line(xs: &[i32], sum: i64, d: u64) -> Option<Curve>
 {
     let n = xs.len();
     let sum = scaled_total(xs, sum);
-    let moment = scaled_moment(xs);
+    let moment = scaled_moment(xs, moment);
     through(n, sum, moment, 0, d)
 }
 
-/// The parabola through the readings, where it keeps the bound.
-fn parabola(xs: &[i32], d: u64) -> Option<Curve>
+/// The parabola through the readings, by their sum and that of their moments, where it keeps the bound.
+fn parabola(xs: &[i32], sum: i64, moment: i128, d: u64) -> Option<Curve>
     requires some { 3 ≤ length xs.now }
     requires few { length xs.now ≤ 2 ^ 20 }
     requires small { AreReadings xs.now }
+    requires total { sum ≡ total_below (in_block xs.now 0) (length xs.now) }
+    requires near { unsigned_abs sum ≤ length xs.now * 10 ^ 9 }
+    requires moment { moment ≡ total_below (moment_at (reading xs.now)) (length xs.now) }
+    requires moderate { unsigned_abs moment ≤ length xs.now * 2 ^ 50 }
     requires most { d ≡ greatest_reading xs.now }
     requires magnitude { d ≤ 10 ^ 9 }
     ensures curve { result ≡ kept (length xs.now) d (parabola_of xs.now) }
@@ -182,8 +209,8 @@ fn parabola(xs: &[i32], d: u64) -> Option<Curve>
     if !straight {
         return None;
     }
-    let sum = straight_total(xs, bend);
-    let moment = straight_moment(xs, bend);
+    let sum = straight_total(xs, sum, bend);
+    let moment = straight_moment(xs, moment, bend);
     through(n, sum, moment, bend as i64, d)
 }
 
@@ -200,39 +227,44 @@ fn scaled_total(xs: &[i32], sum: i64) -> i128
     scaled_up(wide)
 }
 
-/// The sum of the values, each times its place.
-fn scaled_moment(xs: &[i32]) -> i128
+/// The sum of the values, each times its place, by that of the readings.
+fn scaled_moment(xs: &[i32], moment: i128) -> i128
     requires few { length xs.now ≤ 2 ^ 20 }
     requires small { AreReadings xs.now }
+    requires moment { moment ≡ total_below (moment_at (reading xs.now)) (length xs.now) }
+    requires moderate { unsigned_abs moment ≤ length xs.now * 2 ^ 50 }
     ensures value { result ≡ total_below (moment_at (scaled xs.now)) (length xs.now) }
     ensures bound { unsigned_abs result ≤ 2 ^ 84 }
 {
-    let sum = moment(xs);
-    scaled_up(sum)
+    scaled_up(moment)
 }
 
-/// The sum of the values less the bend.
-fn straight_total(xs: &[i32], bend: i128) -> i128
+/// The sum of the values less the bend, by that of the readings.
+fn straight_total(xs: &[i32], sum: i64, bend: i128) -> i128
     requires few { length xs.now ≤ 2 ^ 20 }
     requires small { AreReadings xs.now }
+    requires total { sum ≡ total_below (in_block xs.now 0) (length xs.now) }
+    requires near { unsigned_abs sum ≤ length xs.now * 10 ^ 9 }
     requires bend { unsigned_abs bend * (length xs.now * length xs.now) ≤ 2 ^ 47 }
     ensures value { result ≡ total_below (straightened xs.now bend) (length xs.now) }
     ensures bound { unsigned_abs result ≤ 2 ^ 68 }
 {
-    let sum = scaled_total(xs, total(xs, 0, xs.len()));
+    let sum = scaled_total(xs, sum);
     let squares = power(2, xs.len() as u64);
     less(sum, bend, squares)
 }
 
-/// The sum of the values less the bend, each times its place.
-fn straight_moment(xs: &[i32], bend: i128) -> i128
+/// The sum of the values less the bend, each times its place, by that of the readings.
+fn straight_moment(xs: &[i32], moment: i128, bend: i128) -> i128
     requires few { length xs.now ≤ 2 ^ 20 }
     requires small { AreReadings xs.now }
+    requires moment { moment ≡ total_below (moment_at (reading xs.now)) (length xs.now) }
+    requires moderate { unsigned_abs moment ≤ length xs.now * 2 ^ 50 }
     requires bend { unsigned_abs bend * (length xs.now * length xs.now) ≤ 2 ^ 47 }
     ensures value { result ≡ total_below (moment_at (straightened xs.now bend)) (length xs.now) }
     ensures bound { unsigned_abs result ≤ 2 ^ 88 }
 {
-    let sum = scaled_moment(xs);
+    let sum = scaled_moment(xs, moment);
     let cubes = power(3, xs.len() as u64);
     less(sum, bend, cubes)
 }

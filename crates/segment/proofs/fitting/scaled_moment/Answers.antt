@@ -7,6 +7,5 @@ use Rattle.segment.proofs.fitting.scaled_moment.Goals as goal
 
 pub returns-clause-value : goal.returns-clause-value
 returns-clause-value c =
-    let s : SFits w128 c.moment-sum.result = search rules in
     let f : SFits w128 c.scaled_up.result = search rules in
-    to_z-of_z w128 c.scaled_up.result f ∙ c.scaled_up.ensures.value ∙ ap (λ z. pos unit *ℤ z) (to_z-of_z w128 c.moment-sum.result s ∙ c.moment-sum.ensures.value) ∙ sym (moment-scaled c.args.xs.now (length c.args.xs.now))
+    to_z-of_z w128 c.scaled_up.result f ∙ c.scaled_up.ensures.value ∙ ap (λ z. pos unit *ℤ z) (to_z-of_z w128 c.args.moment c.ranges.moment ∙ c.requires.moment) ∙ sym (moment-scaled c.args.xs.now (length c.args.xs.now))

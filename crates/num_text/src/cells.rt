@@ -1,4 +1,4 @@
-ghost use Rattle.std.specs.Prelude.{◌≡◌, ◌≤◌, ◌+◌, ◌&&◌, if◌then◌else◌, IsTrue, length, min, nat_le, nat_lt, slice_index};
+ghost use Rattle.std.specs.Prelude.{◌≡◌, ◌≤◌, ◌+◌, ◌*◌, ◌^◌, ◌&&◌, if◌then◌else◌, IsTrue, length, min, nat_le, nat_lt, slice_index};
 ghost use Rattle.std.specs.Char.{is_ascii_digit};
 ghost use Rattle.std.specs.List.{list_all, position_or_len, prefix_len, suffix_len};
 ghost use Rattle.semantics.specs.Most.{greatest_reading, most_scale};
@@ -92,8 +92,21 @@ fn carry(fraction: &[u8], places: usize) -> u128
     }
 }
 
-/// The magnitude of a decimal times 10^scale, rounded, or one above the greatest reading where it is greater.
+/// A number with so many zeros behind its digits, or `limit` where that is greater.
 #[tactic(auto, using(crate::proofs::ScaleLaws::small_power))]
+fn filled(number: u128, zeros: usize, limit: u128) -> u128
+    requires few { zeros ≤ 6 }
+    requires number { number ≤ limit }
+    requires small { limit ≤ 2 ^ 59 }
+    ensures { result ≡ min (number * 10 ^ zeros) limit }
+{
+    if zeros == 0 {
+        return number;
+    }
+    (number * 10u128.pow(zeros as u32)).min(limit)
+}
+
+/// The magnitude of a decimal times 10^scale, rounded, or one above the greatest reading where it is greater.
 fn scaled(scale: u8, whole: &[u8], fraction: &[u8]) -> u128
     requires scale { scale ≤ most_scale }
     requires digits { IsTrue (list_all is_ascii_digit fraction.now) }
@@ -103,7 +116,7 @@ fn scaled(scale: u8, whole: &[u8], fraction: &[u8]) -> u128
     let places = usize::from(scale);
     let kept = fraction.len().min(places);
     let number = number_on(number_on(0, whole, limit), &fraction[..kept], limit);
-    let floor = (number * 10u128.pow((places - kept) as u32)).min(limit);
+    let floor = filled(number, places - kept, limit);
     (floor + carry(fraction, places)).min(limit)
 }
 

@@ -8,4 +8,5 @@ pub mod New
 pub mod Once
 pub mod Prove
 pub mod Query
+pub mod Session
 pub mod Verify

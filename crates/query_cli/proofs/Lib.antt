@@ -5,9 +5,12 @@ pub mod EmptyLaws
 pub mod GeneratedLaws
 pub mod PartFacts
 pub mod PartLaws
+pub mod PlayLaws
 pub mod QuestionLaws
 pub mod ReplayLaws
 pub mod RunLaws
+pub mod SavedLaws
+pub mod SessionRun
 pub mod StepLaws
 pub mod UsageLaws
 pub mod WordLaws

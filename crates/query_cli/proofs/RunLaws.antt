@@ -3,7 +3,7 @@ use Rattle.std.proofs.Common.{◌≡◌, ℕ, List, Option, Some, None, true, re
 use Rattle.std.specs.Prelude.{◌⊎◌, ◌++◌}
 use Rattle.std.specs.declared.alloc.Global.{Global}
 use Rattle.semantics.specs.Files.{Files, IfTold}
-use Rattle.query_cli.specs.Commands.{Answers, Command, once, new_store, load, append, check, query, prove, verify, gen, is_reader, is_writer, refusal_of}
+use Rattle.query_cli.specs.Commands.{Answers, Command, once, new_store, load, append, check, query, prove, verify, gen, session, is_reader, is_writer, refusal_of}
 use Rattle.query_cli.specs.Reading.{Shown, reading_with}
 use Rattle.query_cli.specs.Refusals.{Refusal, absent, arena_full, bad_cert, bad_csv, bad_query, bad_script, bad_store, called_for, domain, escapes, not_a_cut, query_rank, query_unknown, range, series_fault, status_of, store_fault, too_big, usage, wide}
 use Rattle.query_cli.specs.Run.{Accepts, Hides, IsCounted, IsDone, IsRefusal, IsRefused, IsStatus, IsText, IsUnrefused, Replies}
@@ -20,32 +20,34 @@ use Rattle.query_cli.proofs.UsageLaws.{usage_only}
 
 -- ---- a refusal's status is that of no answer and of no fault
 
-record IsPlain (s : Status) : Type 0 where
+pub record IsPlain (s : Status) : Type 0 where
   pub ok : s ≡ status.Ok → ⊥
+  pub memory : s ≡ status.Memory → ⊥
+  pub out : s ≡ status.OutFault → ⊥
   pub read : s ≡ status.ReadFault → ⊥
   pub replace : s ≡ status.ReplaceFault → ⊥
 
-plain_status : (r : Refusal) → IsPlain (status_of r)
-plain_status usage = record { ok = λ e. cc; read = λ e. cc; replace = λ e. cc }
-plain_status (absent name) = record { ok = λ e. cc; read = λ e. cc; replace = λ e. cc }
-plain_status (too_big name) = record { ok = λ e. cc; read = λ e. cc; replace = λ e. cc }
-plain_status (bad_csv e) = record { ok = λ e. cc; read = λ e. cc; replace = λ e. cc }
-plain_status (bad_store e) = record { ok = λ e. cc; read = λ e. cc; replace = λ e. cc }
-plain_status (series_fault name e) = record { ok = λ e. cc; read = λ e. cc; replace = λ e. cc }
-plain_status (domain sum lo hi) = record { ok = λ e. cc; read = λ e. cc; replace = λ e. cc }
-plain_status (bad_query e) = record { ok = λ e. cc; read = λ e. cc; replace = λ e. cc }
-plain_status store_fault = record { ok = λ e. cc; read = λ e. cc; replace = λ e. cc }
-plain_status (query_unknown name) = record { ok = λ e. cc; read = λ e. cc; replace = λ e. cc }
-plain_status (query_rank sum) = record { ok = λ e. cc; read = λ e. cc; replace = λ e. cc }
-plain_status (range node) = record { ok = λ e. cc; read = λ e. cc; replace = λ e. cc }
-plain_status (not_a_cut place) = record { ok = λ e. cc; read = λ e. cc; replace = λ e. cc }
-plain_status (escapes lo hi) = record { ok = λ e. cc; read = λ e. cc; replace = λ e. cc }
-plain_status (wide width) = record { ok = λ e. cc; read = λ e. cc; replace = λ e. cc }
-plain_status (bad_cert e) = record { ok = λ e. cc; read = λ e. cc; replace = λ e. cc }
-plain_status (bad_script line) = record { ok = λ e. cc; read = λ e. cc; replace = λ e. cc }
-plain_status arena_full = record { ok = λ e. cc; read = λ e. cc; replace = λ e. cc }
+pub plain_status : (r : Refusal) → IsPlain (status_of r)
+plain_status usage = record { ok = λ e. cc; memory = λ e. cc; out = λ e. cc; read = λ e. cc; replace = λ e. cc }
+plain_status (absent name) = record { ok = λ e. cc; memory = λ e. cc; out = λ e. cc; read = λ e. cc; replace = λ e. cc }
+plain_status (too_big name) = record { ok = λ e. cc; memory = λ e. cc; out = λ e. cc; read = λ e. cc; replace = λ e. cc }
+plain_status (bad_csv e) = record { ok = λ e. cc; memory = λ e. cc; out = λ e. cc; read = λ e. cc; replace = λ e. cc }
+plain_status (bad_store e) = record { ok = λ e. cc; memory = λ e. cc; out = λ e. cc; read = λ e. cc; replace = λ e. cc }
+plain_status (series_fault name e) = record { ok = λ e. cc; memory = λ e. cc; out = λ e. cc; read = λ e. cc; replace = λ e. cc }
+plain_status (domain sum lo hi) = record { ok = λ e. cc; memory = λ e. cc; out = λ e. cc; read = λ e. cc; replace = λ e. cc }
+plain_status (bad_query e) = record { ok = λ e. cc; memory = λ e. cc; out = λ e. cc; read = λ e. cc; replace = λ e. cc }
+plain_status store_fault = record { ok = λ e. cc; memory = λ e. cc; out = λ e. cc; read = λ e. cc; replace = λ e. cc }
+plain_status (query_unknown name) = record { ok = λ e. cc; memory = λ e. cc; out = λ e. cc; read = λ e. cc; replace = λ e. cc }
+plain_status (query_rank sum) = record { ok = λ e. cc; memory = λ e. cc; out = λ e. cc; read = λ e. cc; replace = λ e. cc }
+plain_status (range node) = record { ok = λ e. cc; memory = λ e. cc; out = λ e. cc; read = λ e. cc; replace = λ e. cc }
+plain_status (not_a_cut place) = record { ok = λ e. cc; memory = λ e. cc; out = λ e. cc; read = λ e. cc; replace = λ e. cc }
+plain_status (escapes lo hi) = record { ok = λ e. cc; memory = λ e. cc; out = λ e. cc; read = λ e. cc; replace = λ e. cc }
+plain_status (wide width) = record { ok = λ e. cc; memory = λ e. cc; out = λ e. cc; read = λ e. cc; replace = λ e. cc }
+plain_status (bad_cert e) = record { ok = λ e. cc; memory = λ e. cc; out = λ e. cc; read = λ e. cc; replace = λ e. cc }
+plain_status (bad_script line) = record { ok = λ e. cc; memory = λ e. cc; out = λ e. cc; read = λ e. cc; replace = λ e. cc }
+plain_status arena_full = record { ok = λ e. cc; memory = λ e. cc; out = λ e. cc; read = λ e. cc; replace = λ e. cc }
 
-refusal_text : (files : Option Files) (command : Option Command) (r : Refusal) (text : List ℕ) → IsRefusal files command (status_of r) text → IsText files command (status_of r) text
+pub refusal_text : (files : Option Files) (command : Option Command) (r : Refusal) (text : List ℕ) → IsRefusal files command (status_of r) text → IsText files command (status_of r) text
 refusal_text files command usage text h = h
 refusal_text files command (absent name) text h = h
 refusal_text files command (too_big name) text h = h
@@ -92,7 +94,7 @@ no_command_done old now command text s done none = absurd (subst (λ k. Answers 
 
 -- ---- a command that was refused
 
-refused_status : (old : Option Files) (command : Option Command) (r : Refusal) (s : Status) → s ≡ status_of r → IsRefused old command r → IfTold old (λ m. IsStatus m command s)
+pub refused_status : (old : Option Files) (command : Option Command) (r : Refusal) (s : Status) → s ≡ status_of r → IsRefused old command r → IfTold old (λ m. IsStatus m command s)
 refused_status None command r s is k = tt
 refused_status (Some m) command r s is k =
     inl (k.reading.shown, is ∙ sym (ap called_for (subst (λ x. refusal_of x command ≡ Some r) k.read k.called)))
@@ -109,6 +111,7 @@ accepted_still m shown (Some (query c)) h = asked_still m shown c h
 accepted_still m shown (Some (prove c)) h = asked_still m shown c h
 accepted_still m shown (Some (verify c)) h = h
 accepted_still m shown (Some (gen c)) h = h
+accepted_still m shown (Some (session c)) h = h
 
 unrefused : (old : Option Files) (command : Option Command) (r : Refusal) (s : Status) → IsRefused old command r → IfTold old (λ m. Accepts m command → IsUnrefused s)
 unrefused None command r s k = tt
@@ -157,9 +160,9 @@ pub record IsMet (old : Option Files) (command : Option Command) (f : Fault) : T
 fault_exact : (old : Option Files) (command : Option Command) (f : Fault) → IsMet old command f → IfTold old (λ m. IsStatus m command (fault_status f))
 fault_exact None command f met = tt
 fault_exact (Some m) command fault.Reading met = inr (inr (inr (inl (refl, met.reading refl))))
-fault_exact (Some m) command fault.Replacing met = inr (inr (inr (inr (refl, met.replacing refl, met.unrefused refl))))
+fault_exact (Some m) command fault.Replacing met = inr (inr (inr (inr (inl (refl, met.replacing refl, met.unrefused refl)))))
 
-fault_text : (old : Option Files) (command : Option Command) (f : Fault) (text : List ℕ) → text ≡ fault_line f → IsText old command (fault_status f) text
+pub fault_text : (old : Option Files) (command : Option Command) (f : Fault) (text : List ℕ) → text ≡ fault_line f → IsText old command (fault_status f) text
 fault_text old command fault.Reading text e = e
 fault_text old command fault.Replacing text e = e
 

@@ -19,6 +19,9 @@ use Rattle.semantics.specs.Plain.{plain}
 use Rattle.semantics.specs.Term.{QueryTerm}
 use Rattle.series_csv.specs.Column.{column_of}
 use Rattle.series_csv.specs.declared.fault.CsvErr.{CsvErr}
+use Rattle.sessions.specs.Script.{script_of}
+use Rattle.sessions.specs.declared.events.Event.{Event}
+use Rattle.sessions.specs.declared.scripts.ScriptErr.{ScriptErr}
 use Rattle.store_file.specs.Added.{name_refusal}
 use Rattle.store_file.specs.StoreValue.{StoreValue}
 use Rattle.store_file.specs.declared.adding.SeriesErr.{SeriesErr}
@@ -29,7 +32,7 @@ use Rattle.store_file.specs.Last.{last_in}
 use Rattle.store_file.specs.declared.decoding.StoreErr.{StoreErr}
 use Rattle.store_file.specs.declared.decoding.StoreErr.TheVariants as stored
 use Rattle.query_cli.specs.Asked.{admitted_in}
-use Rattle.query_cli.specs.Commands.{Command, append, check, gen, load, new_store, once, prove, query, refusal_of, verify}
+use Rattle.query_cli.specs.Commands.{Command, append, check, gen, load, new_store, once, prove, query, refusal_of, session, verify}
 use Rattle.query_cli.specs.Commands.Check.{CheckCommand, checked_by}
 use Rattle.query_cli.specs.Commands.Append.{append_by, appended_in}
 use Rattle.query_cli.specs.Commands.Column.{Bringing, Brought, ColumnCommand, brought_by}
@@ -37,11 +40,12 @@ use Rattle.query_cli.specs.Commands.Gen.{GenCommand, roomy_by, roomy_in}
 use Rattle.query_cli.specs.Commands.Load.{load_by, loaded_in}
 use Rattle.query_cli.specs.Commands.Once.{OnceCommand, one_series, sum_query, summed_by, summed_in}
 use Rattle.query_cli.specs.Commands.Query.{QueryCommand, are_bytes, asked_by, asked_in, asked_of, asked_of_none, asked_over, query_in}
+use Rattle.query_cli.specs.Commands.Session.{Scripted, SessionCommand, script_refusal, scripted_by, scripted_in}
 use Rattle.query_cli.specs.Commands.Verify.{VerifyCommand, cert_in, upheld_by, upheld_in, verified_by}
 use Rattle.query_cli.specs.Reading.{File, Reading, Shown, answered, held, missing, no_store, oversized, refused}
 use Rattle.query_cli.specs.Refusals.{Refusal, absent, arena_full, bad_cert, bad_csv, bad_query, bad_script, bad_store, domain, escapes, not_a_cut, query_rank, query_refusal, query_unknown, range, series_fault, status_of, store_fault, too_big, usage, wide}
 use Rattle.query_cli.specs.Run.{IsRefused}
-use Rattle.query_cli.specs.Steps.{and_then, bytes_of, cert_bytes, column_in, csv_bytes, last_reading_in, refused_as, room_in, short_in, store_bytes, store_in, unless_refused}
+use Rattle.query_cli.specs.Steps.{and_then, bytes_of, cert_bytes, column_in, csv_bytes, last_reading_in, refused_as, room_in, script_bytes, short_in, store_bytes, store_in, unless_refused}
 use Rattle.query_cli.specs.declared.status.Status.TheVariants as status
 
 -- ---- steps that never answer so
@@ -186,6 +190,16 @@ gen_isnt reading c =
     (λ stored. behind (store_in stored) (λ m. room_in m c.name) (error {E = StoreErr} bad_store (decode_of stored) (λ e k. cc))
     (λ m. unless {E = SeriesErr} (series_fault c.name) m (name_refusal m c.name) (λ e k. cc)))
 
+abbrev script_found : StoreValue → List Event → Result Scripted Refusal
+script_found m events = Ok (record { store = m; events = events })
+
+session_isnt : (reading : Reading) (c : SessionCommand) → scripted_by reading c ≡ Err usage → ⊥
+session_isnt reading c =
+    behind (store_bytes reading c.store) (λ stored. and_then (script_bytes reading c.script) (λ text. scripted_in stored text)) (read c.store (reading.store c.store))
+    (λ stored. behind (script_bytes reading c.script) (λ text. scripted_in stored text) (read c.script (reading.script c.script))
+    (λ text. behind (store_in stored) (λ m. and_then (refused_as script_refusal (script_of text)) (λ events. script_found m events)) (error {E = StoreErr} bad_store (decode_of stored) (λ e k. cc))
+    (λ m. behind (refused_as script_refusal (script_of text)) (λ events. script_found m events) (error {E = ScriptErr} script_refusal (script_of text) (λ e k. cc)) (λ events h. cc))))
+
 error_of : {A : Type 0} (x : Result A Refusal) (r : Refusal) → result_err x ≡ Some r → x ≡ Err r
 error_of (Ok a) r h = cc
 error_of (Err e) r h = cc
@@ -221,6 +235,7 @@ is_usage reading (Some (query c)) h = absurd (query_isnt reading c (error_of (as
 is_usage reading (Some (prove c)) h = absurd (query_isnt reading c (error_of (asked_by reading c) usage h))
 is_usage reading (Some (verify c)) h = absurd (verify_isnt reading c (error_of (verified_by reading c) usage h))
 is_usage reading (Some (gen c)) h = absurd (gen_isnt reading c (error_of (roomy_by reading c) usage h))
+is_usage reading (Some (session c)) h = absurd (session_isnt reading c (error_of (scripted_by reading c) usage h))
 
 pub usage_only : (files : Option Files) (command : Option Command) (r : Refusal) → IsRefused files command r → status_of r ≡ status.Usage → command ≡ None
 usage_only files command r k e =

@@ -8,6 +8,7 @@ pub mod New
 pub mod Once
 pub mod Prove
 pub mod Query
+pub mod Session
 pub mod Verify
 use Rattle.std.specs.Prelude.{◌≡◌, ℕ, Bool, true, false, List, [], ◌∷◌, codes, map, string_bytes, Option, Some, None, option_map, if◌then◌else◌}
 use Rattle.std.specs.Result.{result_err}
@@ -23,6 +24,7 @@ use Rattle.query_cli.specs.Commands.New.{NewCommand, files_after_new, new_line, 
 use Rattle.query_cli.specs.Commands.Once.{OnceCommand, OnceAnswers, once_of, summed_by}
 use Rattle.query_cli.specs.Commands.Prove.{ProveAnswers, ProveHands}
 use Rattle.query_cli.specs.Commands.Query.{QueryCommand, QueryAnswers, QueryHands, asked_by, query_of, query_reads}
+use Rattle.query_cli.specs.Commands.Session.{SessionCommand, SessionReplays, scripted_by, session_of, session_reads}
 use Rattle.query_cli.specs.Commands.Verify.{VerifyAnswers, VerifyCommand, verified_by, verify_of, verify_reads}
 use Rattle.query_cli.specs.Reading.{Reading, reading_in}
 use Rattle.query_cli.specs.Refusals.{Refusal, usage}
@@ -39,6 +41,7 @@ pub data Command : Type 0 where
   prove : QueryCommand → Command
   verify : VerifyCommand → Command
   gen : GenCommand → Command
+  session : SessionCommand → Command
 
 -- the command that the words spell
 unfoldable pub command_of : List (List ℕ) → Option Command
@@ -52,13 +55,24 @@ command_of words =
     else if has_form words (codes "prove") 4 then option_map prove (query_of words)
     else if has_form words (codes "verify") 3 then option_map verify (verify_of words)
     else if has_form words (codes "gen") 5 then option_map gen (gen_of words)
+    else if has_form words (codes "session") 3 then option_map session (session_of words)
     else None
 
 -- the same, by the words as the program has them
 abbrev pub command_in : List (String Global) → Option Command
 command_in words = command_of (map string_bytes words)
 
--- the first refusal, where there is one
+-- whether the whole text is written in one piece: `session` writes line by line
+abbrev pub is_at_once : Option Command → Bool
+is_at_once (Some (session c)) = false
+is_at_once command = true
+
+-- a fact of `session`
+abbrev pub IfSession : Option Command → (SessionCommand → Type 0) → Type 0
+IfSession (Some (session c)) P = P c
+IfSession command P = Unit {0}
+
+-- the first refusal, where there is one; in `session` before the first event
 abbrev pub refusal_of : Reading → Option Command → Option Refusal
 refusal_of reading None = Some usage
 refusal_of reading (Some (once c)) = result_err (summed_by reading c)
@@ -70,8 +84,9 @@ refusal_of reading (Some (query c)) = result_err (asked_by reading c)
 refusal_of reading (Some (prove c)) = result_err (asked_by reading c)
 refusal_of reading (Some (verify c)) = result_err (verified_by reading c)
 refusal_of reading (Some (gen c)) = result_err (roomy_by reading c)
+refusal_of reading (Some (session c)) = result_err (scripted_by reading c)
 
--- the text of the answer, where nothing is refused
+-- the text of the answer, where nothing is refused and the text is written in one piece
 abbrev pub Answers : Reading → Option Command → List ℕ → Type 0
 Answers reading None text = ⊥
 Answers reading (Some (once c)) text = OnceAnswers reading c text
@@ -83,6 +98,7 @@ Answers reading (Some (query c)) text = QueryAnswers reading c text
 Answers reading (Some (prove c)) text = ProveAnswers reading c text
 Answers reading (Some (verify c)) text = VerifyAnswers reading c text
 Answers reading (Some (gen c)) text = GenAnswers reading c text
+Answers reading (Some (session c)) text = ⊥
 
 -- whether files are read
 abbrev pub is_reader : Option Command → Bool
@@ -96,6 +112,7 @@ is_reader (Some (query c)) = query_reads c
 is_reader (Some (prove c)) = query_reads c
 is_reader (Some (verify c)) = true
 is_reader (Some (gen c)) = true
+is_reader (Some (session c)) = true
 
 -- how many files are read whole: none behind the first refusal
 abbrev pub reads_of : Reading → Option Command → ℕ
@@ -109,6 +126,7 @@ reads_of reading (Some (query c)) = 0
 reads_of reading (Some (prove c)) = 0
 reads_of reading (Some (verify c)) = verify_reads reading c
 reads_of reading (Some (gen c)) = 1
+reads_of reading (Some (session c)) = session_reads reading c
 
 -- how many bytes of files are handed out in parts, by the text of the answer
 abbrev pub HandsParts : Option Files → Option Command → List ℕ → Option ℕ → Option ℕ → Type 0
@@ -128,8 +146,9 @@ is_writer (Some (query c)) = false
 is_writer (Some (prove c)) = false
 is_writer (Some (verify c)) = false
 is_writer (Some (gen c)) = true
+is_writer (Some (session c)) = true
 
--- what becomes of the files; a command that is refused leaves them
+-- what becomes of the files, but for `session`; a command that is refused leaves them
 abbrev pub files_after : Files → Option Command → Files
 files_after files None = files
 files_after files (Some (once c)) = files
@@ -143,6 +162,7 @@ files_after files (Some (query c)) = files
 files_after files (Some (prove c)) = files
 files_after files (Some (verify c)) = files
 files_after files (Some (gen c)) = files_after_gen files c (roomy_by (reading_in files) c)
+files_after files (Some (session c)) = files
 
 -- what becomes of the store for which STORE stood, and of its history, once STORE is written
 abbrev pub IsReplayed : Files → Option Command → Option Files → Type 0
@@ -157,3 +177,4 @@ IsReplayed old (Some (query c)) now = ⊥
 IsReplayed old (Some (prove c)) now = ⊥
 IsReplayed old (Some (verify c)) now = ⊥
 IsReplayed old (Some (gen c)) now = GenReplays old c now
+IsReplayed old (Some (session c)) now = SessionReplays old c now

@@ -3,6 +3,7 @@ pub mod Commands
 pub mod Generated
 pub mod Laws
 pub mod Parted
+pub mod Playing
 pub mod Reading
 pub mod Refusals
 pub mod Replay

@@ -1,8 +1,9 @@
 -- The words of the contract of `run`: what is called for, what is written, and what becomes of the files.
 use Rattle.std.specs.Io.KnownBytes.{Appends}
-use Rattle.std.specs.Prelude.{◌≡◌, ◌≢◌, ◌⊎◌, ◌++◌, ℕ, true, List, Option, Some, None, string_bytes}
+use Rattle.std.specs.Prelude.{◌≡◌, ◌≢◌, ◌⊎◌, ◌++◌, ℕ, true, false, List, [], Option, Some, None, string_bytes}
 use Rattle.semantics.specs.Files.{Files, IfTold}
-use Rattle.query_cli.specs.Commands.{Answers, Command, IsReplayed, files_after, is_reader, is_writer, refusal_of}
+use Rattle.query_cli.specs.Commands.{Answers, Command, IsReplayed, files_after, is_at_once, is_reader, is_writer, refusal_of, session}
+use Rattle.query_cli.specs.Commands.Session.{Ending, SessionCommand, StopsMidway, filled, unsaved}
 use Rattle.query_cli.specs.Reading.{IsRead, Reading, Shown, reading_in, reading_with}
 use Rattle.query_cli.specs.Refusals.{Refusal, called_for, line_of, status_of}
 use Rattle.query_cli.specs.Stops.{HasCause, fault_line}
@@ -23,13 +24,14 @@ Accepts m command = refusal_in m command ≡ None
 abbrev pub IsCalledFor : Files → Option Command → Status → Type 0
 IsCalledFor m command given = (shown : Shown) × (given ≡ called_for (refusal_of (reading_with m shown) command))
 
--- it, or one of those to which it yields: want of memory, a fault of the output, a fault of
--- reading where files are read, and a fault of replacing where one is written and nothing is refused
+-- it, or one of those to which it yields: want of memory, a fault of the output, a fault of reading where files are
+-- read, and where nothing is refused a fault of replacing where a file is written, or in `session` a full arena
 abbrev pub IsStatus : Files → Option Command → Status → Type 0
 IsStatus m command given =
     IsCalledFor m command given ⊎ ((given ≡ status.Memory) ⊎ ((given ≡ status.OutFault)
     ⊎ (((given ≡ status.ReadFault) × (is_reader command ≡ true))
-    ⊎ ((given ≡ status.ReplaceFault) × (is_writer command ≡ true) × Accepts m command))))
+    ⊎ (((given ≡ status.ReplaceFault) × (is_writer command ≡ true) × Accepts m command)
+    ⊎ ((given ≡ status.ArenaFull) × (is_at_once command ≡ false) × Accepts m command)))))
 
 -- the text of the answer, over the bytes that were read
 pub record IsAnswer (files : Option Files) (command : Option Command) (text : List ℕ) : Type 0 where
@@ -87,6 +89,36 @@ pub record Hides (old now : Option Files) (read replaced : Type 0) (command : Op
 -- the output grew by a text of which P holds
 abbrev pub Grew : Option (List ℕ) → Option (List ℕ) → (List ℕ → Type 0) → Type 0
 Grew before after P = (text : List ℕ) × P text × Appends before after text
+
+-- ---- sessions
+
+-- how a session that came to its events ended before they were done
+abbrev pub ending_of : Status → Option Ending
+ending_of status.ArenaFull = Some filled
+ending_of status.ReplaceFault = Some unsaved
+ending_of s = None
+
+-- how a command ended midway
+abbrev pub midway : Option Command → Status → Option Ending
+midway (Some (session c)) s = ending_of s
+midway command s = None
+
+-- a fault of the output hides a status with which no event was done: a front of its text was written
+pub record HidesEarly (files : Option Files) (read : Type 0) (command : Option Command) (front : List ℕ) : Type 0 where
+  pub given : Status
+  pub early : (given ≢ status.Ok) × (midway command given ≡ None)
+  pub rest : List ℕ
+  pub text : IsText files command given (front ++ rest)
+  pub counted : given ≡ status.ReadFault → read
+
+-- a front was written of the line of a refusal or of a fault of reading, or of what the events come to
+abbrev pub IsCutShort : Option Files → Option Files → Type 0 → SessionCommand → List ℕ → Type 0
+IsCutShort old now read c front =
+    (HidesEarly old read (Some (session c)) front × (now ≡ old)) ⊎ StopsMidway old now c front
+
+-- no line was begun, or some of what the events come to was written
+abbrev pub IsLeftOff : Option Files → Option Files → SessionCommand → List ℕ → Type 0
+IsLeftOff old now c front = ((front ≡ []) × (now ≡ old)) ⊎ StopsMidway old now c front
 
 -- ---- what a command comes to
 

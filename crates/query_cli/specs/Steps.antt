@@ -39,6 +39,9 @@ store_bytes reading name = bytes_of name (reading.store name)
 abbrev pub cert_bytes : Reading → List ℕ → Result (List ℕ) Refusal
 cert_bytes reading name = bytes_of name (reading.cert name)
 
+abbrev pub script_bytes : Reading → List ℕ → Result (List ℕ) Refusal
+script_bytes reading name = bytes_of name (reading.script name)
+
 -- the store for which bytes stand
 abbrev pub store_in : List ℕ → Result StoreValue Refusal
 store_in bytes = refused_as bad_store (decode_of bytes)

@@ -6,6 +6,7 @@ use Rattle.query_cli.specs.Commands.Column.{ColumnCommand}
 use Rattle.query_cli.specs.Commands.Check.{CheckCommand}
 use Rattle.query_cli.specs.Commands.Query.{QueryCommand}
 use Rattle.query_cli.specs.Commands.Gen.{GenCommand}
+use Rattle.query_cli.specs.Commands.Session.{SessionCommand}
 use Rattle.query_cli.specs.Commands.Verify.{VerifyCommand}
 use Rattle.query_cli.specs.Refusals.{Refusal, usage, absent, too_big, bad_csv, bad_store, series_fault, domain, bad_query, query_rank, query_unknown, store_fault, range, not_a_cut, escapes, wide, bad_cert, bad_script, arena_full}
 use Rattle.query_cli.specs.declared.commands.Command.{Command as CommandCode}
@@ -21,6 +22,7 @@ use Rattle.query_cli.specs.declared.commands.query.Query.{Query}
 use Rattle.query_cli.specs.declared.steps.question.Question.{Question}
 use Rattle.query_cli.specs.declared.commands.verify.Verify.{Verify}
 use Rattle.query_cli.specs.declared.commands.generate.Gen.{Gen}
+use Rattle.query_cli.specs.declared.commands.session.Session.{Session}
 use Rattle.query_cli.specs.declared.refusals.Refusal.{Refusal as RefusalCode}
 use Rattle.query_cli.specs.declared.refusals.Refusal.TheVariants as refusal
 
@@ -63,6 +65,9 @@ verify_view v = record { store = v.store.now; cert = v.cert.now }
 
 abbrev pub gen_view : Gen → GenCommand
 gen_view g = record { store = g.store.now; name = g.name; count = g.count; seed = g.seed }
+
+abbrev pub session_view : Session → SessionCommand
+session_view s = record { store = s.store.now; script = s.script.now }
 
 abbrev pub command_view : CommandCode → Command
 command_view (command.Once o) = once (once_view o)

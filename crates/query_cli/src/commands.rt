@@ -1,7 +1,7 @@
 ghost use Rattle.std.specs.Prelude.{◌≡◌, ◌≢◌, ◌≤◌, false, true, map, option_map, string_bytes, None, Err, OnErr, IfOk, IfErr};
 ghost use Rattle.semantics.specs.Faults.{Rose};
 ghost use Rattle.semantics.specs.Files.{IfTold};
-ghost use Rattle.query_cli.specs.Commands.{HandsParts, command_in, is_reader, is_writer, reads_of};
+ghost use Rattle.query_cli.specs.Commands.{HandsParts, command_in, is_at_once, is_reader, is_writer, reads_of};
 ghost use Rattle.query_cli.specs.Reading.{reading_in};
 ghost use Rattle.query_cli.specs.Run.{Accepts, IsDone, IsRefused};
 ghost use Rattle.query_cli.specs.Shelf.{Replaces, RoseAtMost};
@@ -16,6 +16,7 @@ mod new;
 mod once;
 mod prove;
 mod query;
+pub(crate) mod session;
 mod verify;
 
 use crate::refusals::Refusal;
@@ -24,7 +25,7 @@ use crate::words::is_form;
 use outside::Shelf;
 use std::alloc::Global;
 
-/// What the words may ask for.
+/// What the words may ask for that is answered at once.
 #[derive(Drop)]
 pub(crate) enum Command<'a> {
     Once(once::Once<'a>),
@@ -41,6 +42,7 @@ pub(crate) enum Command<'a> {
 /// The command that the words spell.
 #[tactic(auto, unfolding(crate::specs::Commands::command_of))]
 pub(crate) fn read_command(words: &[String]) -> Option<Command<'_>>
+    requires { is_at_once (command_in words.now) ≡ true }
     ensures { option_map command_view result ≡ command_in words.now }
 {
     if is_form(words, "once", 7) {
@@ -79,6 +81,7 @@ pub(crate) fn answer<S: Shelf>(
     words: &[String],
     shelf: &mut S,
 ) -> Result<String, Halt>
+    requires { is_at_once (command_in words.now) ≡ true }
     ensures done { IfOk result (λ t.
         IsDone (S.files shelf.old) (S.files shelf.new) (command_in words.now) (string_bytes t)) }
     ensures refused { IfErr result (λ h. IfStopped h (IsRefused (S.files shelf.old) (command_in words.now))) }

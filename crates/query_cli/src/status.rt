@@ -2,6 +2,9 @@
 
 ghost use Rattle.std.specs.Prelude.{◌≡◌};
 
+use num_text::Memory;
+use std::alloc::AllocError;
+
 /// How a run ended. The program ends with its number.
 #[derive(Clone, Copy, Debug, PartialEq, Eq)]
 pub enum Status {
@@ -23,6 +26,26 @@ pub enum Status {
     BadCert,
     BadScript,
     ArenaFull,
+}
+
+impl From<AllocError> for Status {
+    ghost use Rattle.query_cli.specs.declared.status.Status.TheVariants.{Memory as no_memory};
+
+    ghost from_gives = { λ _ s. s ≡ no_memory };
+
+    fn from(_e: AllocError) -> Status {
+        Status::Memory
+    }
+}
+
+impl From<Memory> for Status {
+    ghost use Rattle.query_cli.specs.declared.status.Status.TheVariants.{Memory as no_memory};
+
+    ghost from_gives = { λ _ s. s ≡ no_memory };
+
+    fn from(_e: Memory) -> Status {
+        Status::Memory
+    }
 }
 
 impl Status {

@@ -4,6 +4,7 @@ pub(crate) mod answer_line;
 pub(crate) mod asked;
 pub(crate) mod column;
 pub(crate) mod files;
+pub(crate) mod lines;
 pub(crate) mod parts;
 pub(crate) mod question;
 pub(crate) mod store;

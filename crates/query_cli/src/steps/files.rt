@@ -20,6 +20,9 @@ pub(crate) const MOST_CERT: u64 = 1 << 26;
 /// The most bytes of a store.
 pub(crate) const MOST_STORE: u64 = 1 << 28;
 
+/// The most bytes of a script.
+pub(crate) const MOST_SCRIPT: u64 = 1 << 24;
+
 /// The bytes of a file, which are at most so many.
 pub(crate) fn read_file<S: Shelf>(
     alloc: Global,

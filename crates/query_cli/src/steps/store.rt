@@ -2,6 +2,7 @@ ghost use Rattle.query_cli.specs.Reading.{most_store};
 ghost use Rattle.query_cli.specs.Refusals.{series_fault};
 ghost use Rattle.query_cli.specs.Steps.{last_reading_in, room_in, short_in, store_in};
 ghost use Rattle.query_cli.specs.Stops.{IfRefused, IsStepRefusal};
+ghost use Rattle.seg_tree.specs.Linked.{used};
 ghost use Rattle.segment.specs.Measure.{AreReadings};
 ghost use Rattle.semantics.specs.Most.{most_readings};
 ghost use Rattle.std.specs.Option.{ForSome};
@@ -33,6 +34,8 @@ pub(crate) fn store_of(alloc: Global, bytes: &[u8]) -> Result<Store, Stop>
     ensures stands { IfOk result (λ s. store_image (store_value s) ≡ bytes.now) }
     ensures store { IfOk result (λ s. IsStoreValue (store_value s)) }
     ensures nodes { IfOk result HasRoom }
+    ensures limit { IfOk result (λ s. s.arena.limit ≡ 2 ^ 24) }
+    ensures count { IfOk result (λ s. used s.arena.nodes ≤ 2 ^ 21) }
 {
     match decode(alloc, bytes) {
         Ok(store) => Ok(store),

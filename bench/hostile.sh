@@ -41,3 +41,9 @@ repeated 67108864 '[' > deep.json
 row 'one of 2^26 brackets' verify a.store deep.json
 { repeated 67108864 ' ' | head -c 67108862; printf '{}'; } > blank.json
 row 'one of 2^26 bytes, of which two are no blanks' verify a.store blank.json
+yes '' | head -c 16777216 > empty.script || true
+row 'a script of 2^24 empty lines' session a.store empty.script
+yes 'show 0' | head -c 16777215 > shows.script || true
+row 'one of 2^24 bytes of shows' session a.store shows.script
+{ printf 'append x'; repeated 8388603 ' 1'; } > append.script
+row 'one of an append of 8,388,603 readings' session a.store append.script

@@ -22,6 +22,8 @@ mod hostile_tests;
 #[cfg(test)]
 mod query_tests;
 #[cfg(test)]
+mod session_tests;
+#[cfg(test)]
 mod store_tests;
 #[cfg(test)]
 mod tests;

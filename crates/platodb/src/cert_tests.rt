@@ -98,22 +98,26 @@ fn proves_over_turns(rt: HostRuntime) -> Result<(), Fail> {
     )
 }
 
-// What `verify` says of each certificate over the store of 0 and 10 in turn.
-fn verifies(rt: &impl Abort, alloc: Global, texts: &[(&[u8], &str, u8)]) -> Result<(), Fail> {
+// What `verify` says of a certificate over the store of 0 and 10 in turn.
+fn verifies(
+    rt: &impl Abort,
+    alloc: Global,
+    text: &[u8],
+    written: &str,
+    number: u8,
+) -> Result<(), Fail> {
     let store = turns(rt, alloc)?;
-    for (text, written, number) in texts {
-        let files = [("s", store.as_slice()), ("c", *text)];
-        let mut shelf = shelf_with(alloc, &files, &[], &[])?;
-        says(rt, alloc, &mut shelf, &[("verify s c", written, *number)])?;
-    }
-    Ok(())
+    let text = text.to_vec(alloc)?;
+    let files = [("s", store.as_slice()), ("c", text.as_slice())];
+    let mut shelf = shelf_with(alloc, &files, &[], &[])?;
+    says(rt, alloc, &mut shelf, &[("verify s c", written, number)])
 }
 
 // The certificate of the sum with another budget, cut and ends.
 #[test]
 fn verifies_changed_certificates(rt: HostRuntime) -> Result<(), Fail> {
     let alloc = rt.alloc();
-    verifies(&rt, alloc, &[(SUM.as_bytes(), "holds\n", 0)])?;
+    verifies(&rt, alloc, SUM.as_bytes(), "holds\n", 0)?;
     for (budget, cut, hi, lo, written, number) in [
         (
             "319",
@@ -176,11 +180,11 @@ fn verifies_changed_certificates(rt: HostRuntime) -> Result<(), Fail> {
         ("319", HALVES, "240", "8O", "certificate form lo\n", 15),
     ] {
         let text = certificate(alloc, budget, cut, hi, lo, "sum(x,0,32)")?;
-        verifies(&rt, alloc, &[(text.as_bytes(), written, number)])?;
+        verifies(&rt, alloc, text.as_bytes(), written, number)?;
     }
     let twice = format!(in alloc; "{HALVES},[\"x\",[]]")?;
     let text = certificate(alloc, "319", twice.as_str(), "240", "80", "sum(x,0,32)")?;
-    verifies(&rt, alloc, &[(text.as_bytes(), "not a cut 1\n", 14)])
+    verifies(&rt, alloc, text.as_bytes(), "not a cut 1\n", 14)
 }
 
 // Certificates of other queries.
@@ -204,7 +208,7 @@ fn verifies_queries(rt: HostRuntime) -> Result<(), Fail> {
         ),
     ] {
         let text = certificate(alloc, "0", cut, end, end, query)?;
-        verifies(&rt, alloc, &[(text.as_bytes(), written, number)])?;
+        verifies(&rt, alloc, text.as_bytes(), written, number)?;
     }
     Ok(())
 }
@@ -213,41 +217,40 @@ fn verifies_queries(rt: HostRuntime) -> Result<(), Fail> {
 #[test]
 fn verifies_strange_texts(rt: HostRuntime) -> Result<(), Fail> {
     let alloc = rt.alloc();
-    verifies(
-        &rt,
-        alloc,
-        &[
-            (b"", "certificate not json\n", 15),
-            (b"[", "certificate not json\n", 15),
-            (b"{} {}", "certificate not json\n", 15),
-            (b"\"\xFF\"", "certificate not json\n", 15),
-            (b"{}", "certificate form budget\n", 15),
-            (b"[]", "certificate form object\n", 15),
-            (b"7", "certificate form object\n", 15),
-            (b"{\"budget\":7}", "certificate form budget\n", 15),
-            (b"{\"budget\":\"7\"}", "certificate form cut\n", 15),
-            (
-                b"{\"budget\":\"7\",\"cut\":[]}",
-                "certificate form hi\n",
-                15,
-            ),
-            (
-                b"{\"budget\":\"0\",\"cut\":[],\"hi\":\"7\",\"lo\":\"7\"}",
-                "certificate form query\n",
-                15,
-            ),
-            (
-                b"{\"budget\":\"0\",\"cut\":[],\"hi\":\"7\",\"lo\":\"7\",\"query\":\"7\",\"x\":0}",
-                "certificate form other\n",
-                15,
-            ),
-            (
-                b" {\"query\":\"\\u0037\",\n\"lo\":\"007\",\"hi\":\"8\",\"hi\":\"7\",\"cut\":[],\"budget\":\"0\"}\r\n",
-                "holds\n",
-                0,
-            ),
-        ],
-    )
+    for (text, written, number) in [
+        (b"".as_slice(), "certificate not json\n", 15),
+        (b"[", "certificate not json\n", 15),
+        (b"{} {}", "certificate not json\n", 15),
+        (b"\"\xFF\"", "certificate not json\n", 15),
+        (b"{}", "certificate form budget\n", 15),
+        (b"[]", "certificate form object\n", 15),
+        (b"7", "certificate form object\n", 15),
+        (b"{\"budget\":7}", "certificate form budget\n", 15),
+        (b"{\"budget\":\"7\"}", "certificate form cut\n", 15),
+        (
+            b"{\"budget\":\"7\",\"cut\":[]}",
+            "certificate form hi\n",
+            15,
+        ),
+        (
+            b"{\"budget\":\"0\",\"cut\":[],\"hi\":\"7\",\"lo\":\"7\"}",
+            "certificate form query\n",
+            15,
+        ),
+        (
+            b"{\"budget\":\"0\",\"cut\":[],\"hi\":\"7\",\"lo\":\"7\",\"query\":\"7\",\"x\":0}",
+            "certificate form other\n",
+            15,
+        ),
+        (
+            b" {\"query\":\"\\u0037\",\n\"lo\":\"007\",\"hi\":\"8\",\"hi\":\"7\",\"cut\":[],\"budget\":\"0\"}\r\n",
+            "holds\n",
+            0,
+        ),
+    ] {
+        verifies(&rt, alloc, text, written, number)?;
+    }
+    Ok(())
 }
 
 // The store of one row with numbers of other forms.
@@ -273,7 +276,7 @@ fn verifies_numbers(rt: HostRuntime) -> Result<(), Fail> {
     ] {
         let cut = format!(in alloc; "[\"\\u0078\",[[{start},{len},{opened}]]]")?;
         let text = certificate(alloc, "320", cut.as_str(), "320", "0", "sum(x)")?;
-        verifies(&rt, alloc, &[(text.as_bytes(), written, number)])?;
+        verifies(&rt, alloc, text.as_bytes(), written, number)?;
     }
     Ok(())
 }
@@ -288,16 +291,12 @@ fn verifies_deep_texts(rt: HostRuntime) -> Result<(), Fail> {
     ] {
         let mut text = vec![in alloc; b'['; depth]?;
         text.extend_from_slice(&vec![in alloc; b']'; depth]?)?;
-        verifies(&rt, alloc, &[(text.as_slice(), written, 15)])?;
+        verifies(&rt, alloc, &text, written, 15)?;
     }
     let most = vec![in alloc; b'['; MOST_CERT]?;
-    verifies(
-        &rt,
-        alloc,
-        &[(most.as_slice(), "certificate not json\n", 15)],
-    )?;
+    verifies(&rt, alloc, &most, "certificate not json\n", 15)?;
     let more = vec![in alloc; b'['; MOST_CERT + 1]?;
-    verifies(&rt, alloc, &[(more.as_slice(), "too big c\n", 7)])
+    verifies(&rt, alloc, &more, "too big c\n", 7)
 }
 
 // The first refusal is answered: the files, the store, the certificate.

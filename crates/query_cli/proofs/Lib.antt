@@ -1,5 +1,6 @@
 pub mod AddedSums
 pub mod AskedLaws
+pub mod CertifiedLaws
 pub mod CommandLaws
 pub mod EmptyLaws
 pub mod GeneratedLaws

@@ -74,7 +74,7 @@ both_true true true h = (refl, refl)
 both_true true false h = cc
 both_true false b h = cc
 
-is_bytes : (xs : List ℕ) → are_bytes xs ≡ true → IsBytes xs
+pub is_bytes : (xs : List ℕ) → are_bytes xs ≡ true → IsBytes xs
 is_bytes [] h i = omega arith
 is_bytes (x ∷ xs) h zero = ltb-true x 256 (both_true (nat_lt x 256) (are_bytes xs) h).0
 is_bytes (x ∷ xs) h (suc i) = is_bytes xs (both_true (nat_lt x 256) (are_bytes xs) h).1 i

@@ -1,6 +1,6 @@
 // What holds of all stores and histories.
 
-ghost use Rattle.query_cli.specs.Laws.{OnlyStoresAreAccepted, StoresAreAccepted};
+ghost use Rattle.query_cli.specs.Laws.{CertificatesHold, OnlyStoresAreAccepted, StoresAreAccepted};
 ghost use Rattle.query_cli.specs.Replay.{EmptyGrowthStays, HistoriesGoOn, HistoriesMakeStores};
 
 /// Every history makes a store, and goes on with each command that its store accepts; an `append` of
@@ -15,4 +15,9 @@ pub fn histories_make_stores()
 pub fn stores_are_accepted()
     ensures accepted { StoresAreAccepted }
     ensures only { OnlyStoresAreAccepted }
+{}
+
+/// The certificate that `prove` prints of a store holds over that store.
+pub fn certificates_hold()
+    ensures { CertificatesHold }
 {}

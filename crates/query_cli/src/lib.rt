@@ -11,6 +11,6 @@ mod stop;
 mod top;
 mod words;
 
-pub use laws::{histories_make_stores, stores_are_accepted};
+pub use laws::{certificates_hold, histories_make_stores, stores_are_accepted};
 pub use status::Status;
 pub use top::run;

@@ -1,0 +1,125 @@
+//! Long lists of which most items are the same.
+#![tactic(auto)]
+
+ghost use Rattle.std.specs.Prelude.{◌≡◌, ℕ, ◌+◌, ◌*◌, ◌^◌, ◌<◌, ◌≤◌, length, replicate, slice_index, slice_index_or, slice_set, vec_capacity, IfOk};
+ghost use Rattle.pages.specs.Pages.{item_at, ArePages};
+
+use std::alloc::{AllocError, Global};
+use std::marker::Model;
+
+/// A list of items, in pages of 16. Memory for all of them is taken when it is made, but none of it is written for a page
+/// until an item is put there. So a list of which few pages are put costs little, and to put an item takes no memory.
+#[derive(Drop)]
+pub struct Pages<T> {
+    len: usize,
+    /// What each item is until another one is put.
+    blank: T,
+    /// Where the items of each page stand, in pages. At 0 are those of all pages where nothing was put.
+    numbers: Vec<usize>,
+    items: Vec<T>,
+}
+
+impl<T> Model for Pages<T> {
+    ghost use Rattle.std.specs.Prelude.{List};
+
+    ghost Value = { List T };
+
+    ghost use Rattle.pages.specs.Pages.{view_of, IsPaged};
+
+    ghost view = { view_of };
+
+    ghost invariant = { IsPaged };
+}
+
+/// Where the items of a page stand. They get a place of their own if they have none.
+fn page_for<T: Copy>(
+    numbers: &mut Vec<usize>,
+    items: &mut Vec<T>,
+    page: usize,
+    blank: T,
+) -> usize
+    requires pages { ArePages numbers.old.items items.old.items blank }
+    requires within { page < length numbers.old.items }
+    requires room { 16 * (1 + length numbers.old.items) ≤ vec_capacity items.old }
+    ensures pages { ArePages numbers.new.items items.new.items blank }
+    ensures number { result ≡ slice_index numbers.new.items page }
+    ensures own { 0 < result }
+    ensures within { 16 * (result + 1) ≤ length items.new.items }
+    ensures same { (i : ℕ) → item_at numbers.new.items items.new.items blank i
+        ≡ item_at numbers.old.items items.old.items blank i }
+    ensures count { length numbers.new.items ≡ length numbers.old.items }
+    ensures room { 16 * (1 + length numbers.new.items) ≤ vec_capacity items.new }
+{
+    if numbers[page] > 0 {
+        return numbers[page];
+    }
+    let number = items.len() / 16;
+    let Ok(()) = items.resize(16 * (number + 1), blank) else {
+        unreachable!()
+    };
+    numbers[page] = number;
+    number
+}
+
+impl<T: Copy> Pages<T> {
+    /// So many items that are all the same.
+    pub fn filled(alloc: Global, len: usize, blank: T) -> Result<Pages<T>, AllocError>
+        requires { len ≤ 2 ^ 60 }
+        ensures { IfOk result (λ p. p ≡ replicate len blank) }
+    {
+        let pages = len.div_ceil(16);
+        let numbers = vec![in alloc; 0usize; pages]?;
+        let mut items = Vec::with_capacity(alloc, 16 * (pages + 1))?;
+        let Ok(()) = items.resize(16, blank) else {
+            unreachable!()
+        };
+        Ok(Pages {
+            len,
+            blank,
+            numbers,
+            items,
+        })
+    }
+
+    pub fn len(&self) -> usize
+        ensures { result ≡ length self.now }
+    {
+        self.len
+    }
+
+    /// The item at a place.
+    pub fn get(&self, at: usize) -> T
+        requires { at < length self.now }
+        ensures { result ≡ slice_index_or self.now at result }
+    {
+        self.items[16 * self.numbers[at / 16] + at % 16]
+    }
+
+    /// Puts an item at a place.
+    pub fn put(&mut self, at: usize, item: T)
+        requires { at < length self.old }
+        ensures { self.new ≡ slice_set self.old at item }
+    {
+        let number = page_for(&mut self.numbers, &mut self.items, at / 16, self.blank);
+        self.items[16 * number + at % 16] = item;
+    }
+}
+
+#[cfg(test)]
+mod tests {
+    use super::*;
+    use std::test::Fail;
+
+    #[test]
+    fn items_are_put(rt: HostRuntime) -> Result<(), Fail> {
+        let mut pages = Pages::filled(rt.alloc(), 100, 7u32)?;
+        assert_eq!(rt; (pages.len(), pages.get(0), pages.get(99)), (100, 7, 7));
+        pages.put(40, 1);
+        pages.put(99, 2);
+        pages.put(47, 3);
+        pages.put(40, 4);
+        assert_eq!(rt; (pages.get(40), pages.get(99), pages.get(47)), (4, 2, 3));
+        assert_eq!(rt; (pages.get(39), pages.get(41), pages.get(0)), (7, 7, 7));
+        Ok(())
+    }
+}

@@ -1,19 +1,17 @@
 -- Where a piece of a kept sum is cut off.
 use Rattle.std.proofs.Common.{◌≡◌, ℕ, zero, suc, ◌+◌, ◌-◌, ◌*◌, ◌^◌, ◌<◌, ◌≤◌, min, inl, inr, ℤ, pos, ◌+ℤ◌, List, length, get_or, refl, sym, ap, subst, ◌∙◌, arith}
 use Rattle.std.specs.Prelude.{◌⊎◌}
-use Rattle.std.proofs.Math.Nat.{mul-le-mul_left}
 use Rattle.std.proofs.lemmas.Bool.{cases_lt, cases_eq}
-use Rattle.std.proofs.lemmas.Int.{ints}
 use Rattle.semantics.specs.Term.{Term}
 use Rattle.descent.specs.declared.cells.Cells.{Cells}
 use Rattle.descent.specs.declared.kept.KeptSum.{KeptSum}
 use Rattle.descent.specs.declared.readers.Reader.{Reader}
-use Rattle.descent.specs.Cells.{cells_in, offset_of, AreCells}
+use Rattle.descent.specs.Cells.{begin_of, cells_in, offset_of, AreCells}
 use Rattle.descent.specs.Readers.{reader_at, AreAligned}
 use Rattle.descent.specs.Rows.{Cut}
 use Rattle.descent.specs.Said.{AreRead, SomeComes}
 use Rattle.descent.specs.Settled.{lens_of, CanSay, IsShaped, IsTrimmed}
-use Rattle.descent.proofs.CellLaws.{offsets}
+use Rattle.descent.proofs.CellLaws.{behind-first, offsets}
 
 -- a piece lies in the sum
 pub record LiesIn (k : KeptSum) (c : ℕ) : Type 0 where
@@ -56,35 +54,18 @@ are-read cut t k c n say h some more within = record {
 -- ---- cells begin where pieces are cut off
 
 abbrev pub IsCellBorder : Cells → ℕ → Type 0
-IsCellBorder g offset = (offset ≡ g.count) ⊎ ((k : ℕ) × (offset + g.pad ≡ g.grain * k))
+IsCellBorder g offset = (offset ≡ g.count) ⊎ ((c : ℕ) × (offset + g.pad ≡ begin_of g c))
 
 cell-border : (g : Cells) (d : ℕ) → AreCells g → 0 < d → IsCellBorder g (offset_of g d)
 cell-border g d are some =
-    let m : g.grain * 1 ≤ g.grain * d = mul-le-mul_left g.grain (omega arith) in
-    let p = are.pad in
-    elim (cases_lt (d * g.grain - g.pad) g.count) [
+    let b = behind-first g d are some in
+    elim (cases_lt (begin_of g d - g.pad) g.count) [
       | inl lt ↦ inr (d, omega arith)
       | inr ge ↦ inl (omega arith)
     ]
 
-times : (grain pad j k m offset : ℕ) → 0 < grain → pad + grain * j + offset ≡ grain * (m * k) → (q : ℕ) × (offset + pad ≡ grain * q)
-times grain pad j k m offset some e = elim (cases_lt (m * k) j) [
-  | inl lt ↦ let l : grain * (m * k + 1) ≤ grain * j = mul-le-mul_left grain (omega arith) in absurd (omega arith)
-  | inr ge ↦
-      let q : m * k ≡ j + (m * k - j) = omega arith in
-      let r : grain * (m * k) ≡ grain * (j + (m * k - j)) = ap (λ x. grain * x) q in
-      (m * k - j, omega arith)
-]
-
-come-border : (g : Cells) (rs : List Reader) (offset : ℕ) → AreCells g → AreAligned g rs → 0 < g.count → SomeComes rs offset → IsCellBorder g offset
-come-border g rs offset are aligned some s =
-    let l = s.below in
-    let a = aligned.each s.o s.below some in
-    let w = aligned.whole (omega arith) in
-    let b : (pos (g.pad + g.grain * a.0) +ℤ pos offset) ≡ pos (16 * s.k) = subst (λ z. (z +ℤ pos offset) ≡ pos (16 * s.k)) a.1 s.border in
-    let n : g.pad + g.grain * a.0 + offset ≡ 16 * s.k = omega (arith, ints) in
-    let m : 16 * s.k ≡ g.grain * w.0 * s.k = ap (λ x. x * s.k) w.1 in
-    inr (times g.grain g.pad a.0 s.k w.0 offset are.some (omega arith))
+come-border : (g : Cells) (rs : List Reader) (offset : ℕ) → AreAligned g rs → 0 < g.count → SomeComes rs offset → IsCellBorder g offset
+come-border g rs offset aligned some s = inr (aligned.each s.o s.below some offset s.k s.border)
 
 pub cut-border : (k : KeptSum) (c n most : ℕ) → AreCells k.cells → AreAligned k.cells k.readers.items → LiesIn k c → 0 < lens_of k c → most ≡ offset_of k.cells (c + lens_of k c) - offset_of k.cells c
     → (n ≡ most) ⊎ SomeComes k.readers.items (offset_of k.cells c + n) → IsCellBorder k.cells (offset_of k.cells c + n)
@@ -95,7 +76,7 @@ cut-border k c n most cells aligned piece some size (inl e) =
 cut-border k c n most cells aligned piece some size (inr comes) =
     let low = piece.low in
     let high = piece.high in
-    come-border k.cells k.readers.items (offset_of k.cells c + n) cells aligned (omega arith) comes
+    come-border k.cells k.readers.items (offset_of k.cells c + n) aligned (omega arith) comes
 
 -- the cell at which the rest begins
 pub record IsCutAt (k : KeptSum) (c next : ℕ) : Type 0 where

@@ -1,8 +1,9 @@
 -- What the readers of a sum read, and that they are its occurrences.
-use Rattle.std.proofs.Common.{◌≡◌, ℕ, zero, suc, ◌+◌, ◌-◌, ◌*◌, ◌/◌, ◌%◌, ◌^◌, ◌<◌, ◌≤◌, cond, Bool, true, false, ℤ, pos, negsuc, ◌+ℤ◌, ◌-ℤ◌, Option, Some, None, List, [], ◌∷◌, length, map, drop, get_or, arith, refl, sym, ap, ap₂, subst, ◌∙◌}
+use Rattle.std.proofs.Common.{◌≡◌, ℕ, zero, suc, ◌+◌, ◌-◌, ◌*◌, ◌/◌, ◌%◌, ◌^◌, ◌<◌, ◌≤◌, min, max, inl, inr, cond, Bool, true, false, ℤ, pos, negsuc, ◌+ℤ◌, ◌-ℤ◌, Option, Some, None, List, [], ◌∷◌, length, map, drop, get_or, arith, refl, sym, ap, ap₂, subst, ◌∙◌}
 use Rattle.std.specs.Prelude.{◌≤ℤ◌, ◌<ℤ◌, not, is_some, find}
 use Rattle.std.specs.List.{All}
-use Rattle.std.proofs.lemmas.Bool.{false≢true}
+use Rattle.std.proofs.Math.Nat.{mul-le-mul_left}
+use Rattle.std.proofs.lemmas.Bool.{cases_lt, false≢true}
 use Rattle.std.proofs.lemmas.Int.{ints, clamps}
 use Rattle.std.proofs.lemmas.List.{get_or-map, length-map, ext_get_or}
 use Rattle.std.proofs.lemmas.List.Elements.{All-head}
@@ -31,7 +32,7 @@ use Rattle.descent.specs.declared.readers.Reader.{Reader}
 use Rattle.descent.specs.Changed.{CanKeep}
 use Rattle.descent.specs.Held.{Held, row_in, shown}
 use Rattle.descent.specs.Known.{facts_in}
-use Rattle.descent.specs.Readers.{no_reader, reader_at, reader_of, rows_read, track_at, track_of, AreReadersOf, IsAtPlace, IsReaderOf}
+use Rattle.descent.specs.Readers.{no_reader, reader_at, reader_of, rows_read, track_at, track_of, AreReadersOf, IsAtPlace, IsInBlock, IsInEither, IsReaderOf}
 use Rattle.descent.specs.Rows.{Row, Track, Cut, entries, segs_of_rows, with_rows}
 use Rattle.descent.specs.Said.{seg_read, AreRead, IsSumFrom, ReadsAt}
 use Rattle.descent.specs.Sound.{IsSound, IsSoundTrack}
@@ -260,6 +261,46 @@ aligned rs grain first o some e h =
     let m : first % grain ≡ h.place % grain = ap (λ x. x % grain) f ∙ sym h.same in
     let w : h.place ≡ first % grain + grain * (h.place / grain) = omega arith in
     (h.place / grain, sym h.place_is ∙ ap pos w)
+
+whole-grain : (grain pad j k m offset : ℕ) → 0 < grain → pad + grain * j + offset ≡ grain * (m * k) → (q : ℕ) × (offset + pad ≡ q * grain)
+whole-grain grain pad j k m offset some e = elim (cases_lt (m * k) j) [
+  | inl lt ↦ let l : grain * (m * k + 1) ≤ grain * j = mul-le-mul_left grain (omega arith) in absurd (omega arith)
+  | inr ge ↦
+      let q : m * k ≡ j + (m * k - j) = omega arith in
+      let r : grain * (m * k) ≡ grain * (j + (m * k - j)) = ap (λ x. grain * x) q in
+      (m * k - j, omega arith)
+]
+
+-- where a reader comes to a block a grain begins
+pub comes-to-grain : (r : Reader) (grain pad j m offset k : ℕ) → 0 < grain → 16 ≡ grain * m → r.at ≡ pos (pad + grain * j)
+    → (r.at +ℤ pos offset) ≡ pos (16 * k) → (q : ℕ) × (offset + pad ≡ q * grain)
+comes-to-grain r grain pad j m offset k some whole at border =
+    let b : (pos (pad + grain * j) +ℤ pos offset) ≡ pos (16 * k) = subst (λ z. (z +ℤ pos offset) ≡ pos (16 * k)) at border in
+    let n : pad + grain * j + offset ≡ 16 * k = omega (arith, ints) in
+    let w : 16 * k ≡ grain * m * k = ap (λ x. x * k) whole in
+    whole-grain grain pad j k m offset some (omega arith)
+
+-- the two places in order
+pub in-order : (r : Reader) (first other least most : ℕ) → least ≡ min first other → most ≡ max first other
+    → IsInEither first other r → IsInEither least most r
+in-order r first other least most low high e = elim (cases_lt first other) [
+  | inl lt ↦
+      let a : first ≡ least = omega arith in
+      let b : other ≡ most = omega arith in
+      elim e [ inl at ↦ inl (subst (IsInBlock r) a at) | inr at ↦ inr (subst (IsInBlock r) b at) ]
+  | inr ge ↦
+      let a : first ≡ most = omega arith in
+      let b : other ≡ least = omega arith in
+      elim e [ inl at ↦ inr (subst (IsInBlock r) a at) | inr at ↦ inl (subst (IsInBlock r) b at) ]
+]
+
+-- where a reader comes to a block, by its place in blocks
+pub comes-to-block : (r : Reader) (place block offset k : ℕ) → r.at ≡ pos (place + 16 * block)
+    → (r.at +ℤ pos offset) ≡ pos (16 * k) → place + 16 * block + offset ≡ 16 * k
+comes-to-block r place block offset k at border =
+    let b : (pos (place + 16 * block) +ℤ pos offset) ≡ pos (16 * k) =
+    subst (λ z. (z +ℤ pos offset) ≡ pos (16 * k)) at border in
+    omega (arith, ints)
 
 -- ---- the range of a sum, as the code has it
 

@@ -1,10 +1,11 @@
 -- The occurrences of a sum, as the code has them.
-use Rattle.std.specs.Prelude.{◌≡◌, ℕ, ◌+◌, ◌*◌, ◌%◌, ◌<◌, ◌≤◌, ℤ, pos, ◌+ℤ◌, ◌≤ℤ◌, suc, if◌then◌else◌, List, [], ◌∷◌, length, get_or}
+use Rattle.std.specs.Prelude.{◌≡◌, ◌⊎◌, ℕ, ◌+◌, ◌*◌, ◌%◌, ◌<◌, ◌≤◌, ℤ, pos, ◌+ℤ◌, ◌≤ℤ◌, suc, if◌then◌else◌, List, [], ◌∷◌, length, get_or}
 use Rattle.semantics.specs.Measures.{names_in}
 use Rattle.semantics.specs.Names.{same_name}
 use Rattle.semantics.specs.Term.{Term}
 use Rattle.bounds.specs.Cut.{occurrence_at, Occurrence}
 use Rattle.descent.specs.declared.cells.Cells.{Cells}
+use Rattle.descent.specs.Cells.{begin_of}
 use Rattle.descent.specs.declared.readers.Reader.{Reader}
 use Rattle.descent.specs.Rows.{Row, Track, Cut}
 
@@ -45,10 +46,21 @@ pub record AreReadersOf (cut : Cut) (t : Term) (l : ℤ) (n : ℕ) (rs : List Re
   pub count : length rs ≡ names_in t
   pub each : (o : ℕ) → o < names_in t → IsReaderOf cut t l n o (reader_at rs o)
 
--- a border of cells is read as a border of blocks of so many positions
+-- wherever a reader comes to a border of blocks, a cell begins
+abbrev pub ComesToCells : Cells → Reader → Type 0
+ComesToCells g r = (offset k : ℕ) → (r.at +ℤ pos offset) ≡ pos (16 * k) → (c : ℕ) × (offset + g.pad ≡ begin_of g c)
+
 pub record AreAligned (g : Cells) (rs : List Reader) : Type 0 where
-  pub each : (o : ℕ) → o < length rs → 0 < g.count → (k : ℕ) × ((reader_at rs o).at ≡ pos (g.pad + g.grain * k))
-  pub whole : 0 < length rs → (k : ℕ) × (16 ≡ g.grain * k)
+  pub each : (o : ℕ) → o < length rs → 0 < g.count → ComesToCells g (reader_at rs o)
+
+-- a reader reads the first offset at a place of its block
+pub record IsInBlock (r : Reader) (place : ℕ) : Type 0 where
+  pub block : ℕ
+  pub at : r.at ≡ pos (place + 16 * block)
+
+-- and that place is one of two
+abbrev pub IsInEither : ℕ → ℕ → Reader → Type 0
+IsInEither first other r = IsInBlock r first ⊎ IsInBlock r other
 
 -- an occurrence is read at the same place of its grain as the first one
 pub record IsAtPlace (rs : List Reader) (grain o : ℕ) : Type 0 where

@@ -1,17 +1,18 @@
 //! The estimates of the pieces of a sum, each at the cell where its piece begins, and their sum.
 
-ghost use Rattle.std.specs.Prelude.{◌≡◌, ◌<◌, length, slice_set, pos, ℤ, IfOk, List, replicate};
+ghost use Rattle.std.specs.Prelude.{◌≡◌, ◌^◌, ◌<◌, ◌≤◌, length, slice_set, pos, ℤ, IfOk, List, replicate};
 ghost use Rattle.std.specs.Int.{int_wrap, w128};
 ghost use Rattle.semantics.specs.Readings.{reading};
 ghost use Rattle.semantics.specs.Sums.{total_below};
 
+use pages::Pages;
 use std::alloc::{AllocError, Global};
 use std::marker::Model;
 
 /// Estimates, seen as a list.
 #[derive(Drop)]
 pub(crate) struct Estimates {
-    items: Vec<i128>,
+    items: Pages<i128>,
     /// The sum of the estimates, wrapped to 128 bits.
     sum: i128,
 }
@@ -24,16 +25,17 @@ impl Model for Estimates {
 
     ghost Value = { List ℤ };
 
-    ghost view = { λ e. e.items.items };
+    ghost view = { λ e. e.items };
 
-    ghost invariant = { λ e. e.sum ≡ int_wrap w128 (total_below (reading e.items.items) (length e.items.items)) };
+    ghost invariant = { λ e. e.sum ≡ int_wrap w128 (total_below (reading e.items) (length e.items)) };
 }
 
 impl Estimates {
     pub(crate) fn zeros(alloc: Global, count: usize) -> Result<Estimates, AllocError>
+        requires { count ≤ 2 ^ 40 }
         ensures { IfOk result (λ e. e ≡ replicate count (pos 0)) }
     {
-        let items = vec![in alloc; 0i128; count]?;
+        let items = Pages::filled(alloc, count, 0)?;
         Ok(Estimates { items, sum: 0 })
     }
 
@@ -49,7 +51,10 @@ impl Estimates {
         requires { at < length self.old }
         ensures { self.new ≡ slice_set self.old at estimate }
     {
-        self.sum = self.sum.wrapping_sub(self.items[at]).wrapping_add(estimate);
-        self.items[at] = estimate;
+        self.sum = self
+            .sum
+            .wrapping_sub(self.items.get(at))
+            .wrapping_add(estimate);
+        self.items.put(at, estimate);
     }
 }

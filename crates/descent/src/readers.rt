@@ -7,7 +7,8 @@ ghost use Rattle.expr.specs.Terms.{term_of};
 ghost use Rattle.bounds.specs.Cut.{occurrences};
 ghost use Rattle.descent.specs.Cells.{AreCells};
 ghost use Rattle.descent.specs.Held.{shown};
-ghost use Rattle.descent.specs.Readers.{reader_at, reader_of, track_of, AreAligned, AreReadersOf, IsAtPlace, IsGrain};
+ghost use Rattle.descent.specs.declared.readers.Reader.{Reader};
+ghost use Rattle.descent.specs.Readers.{reader_at, reader_of, track_of, AreAligned, AreReadersOf, ComesToCells, IsAtPlace, IsGrain, IsInBlock, IsInEither};
 ghost use Rattle.descent.specs.Said.{IsSumFrom};
 ghost use Rattle.descent.specs.Sums.{count_of};
 
@@ -145,8 +146,118 @@ fn grain_of(readers: &[Reader]) -> u64
     }
 }
 
-/// The cells of a sum: the largest at whose borders every reader reads a border of cells. A sum without readers is one
-/// cell.
+/// The place in its block at which a reader reads the first offset.
+fn place_in_block(reader: &Reader) -> u64
+    requires { pos 0 ≤ℤ reader.now.at }
+    ensures place { IsInBlock reader.now result }
+    ensures bound { result < 16 }
+{
+    first_place(reader) % 16
+}
+
+/// A place in blocks at which a reader reads the first offset, another one than a given one if there is any.
+fn other_place(readers: &[Reader], first: u64) -> u64
+    requires first { first < 16 }
+    requires from { (o : ℕ) → o < length readers.now → pos 0 ≤ℤ (reader_at readers.now o).at }
+    ensures { result < 16 }
+{
+    for o in 0..readers.len() {
+        let place = place_in_block(&readers[o]);
+        if place != first {
+            return place;
+        }
+    }
+    first
+}
+
+/// Whether a reader reads the first offset at one of two places in its block.
+fn is_in_either(reader: &Reader, first: u64, other: u64) -> bool
+    requires { pos 0 ≤ℤ reader.now.at }
+    ensures { result ≡ true → IsInEither first other reader.now }
+{
+    let place = place_in_block(reader);
+    if place == first {
+        return true;
+    }
+    if place == other {
+        return true;
+    }
+    false
+}
+
+/// Whether each reader reads the first offset at one of two places in its block.
+fn are_in_either(readers: &[Reader], first: u64, other: u64) -> bool
+    requires { (o : ℕ) → o < length readers.now → pos 0 ≤ℤ (reader_at readers.now o).at }
+    ensures { result ≡ true → (o : ℕ) → o < length readers.now → IsInEither first other (reader_at readers.now o) }
+{
+    for o in 0..readers.len() {
+        if !is_in_either(&readers[o], first, other) {
+            return false;
+        }
+    }
+    true
+}
+
+/// The cells of a sum whose readers read the first offset at one of two places of blocks.
+fn two_cells(count: usize, first: u64, other: u64) -> Cells
+    requires some { 0 < count }
+    requires room { count ≤ 2 ^ 20 }
+    requires first { first < 16 }
+    requires other { other < 16 }
+    ensures cells { AreCells result }
+    ensures count { result.count ≡ count }
+    ensures aligned { (r : Reader) → IsInEither first other r → ComesToCells result r }
+{
+    let least = first.min(other);
+    let most = first.max(other);
+    let second = (16 + least - most) % 16;
+    Cells {
+        count,
+        grain: 16,
+        second: second as usize,
+        pad: least as usize,
+    }
+}
+
+/// The cells of a sum whose readers read the first offset at more places of blocks.
+fn fine_cells(readers: &[Reader], count: usize) -> Cells
+    requires some { 0 < length readers.now }
+    requires positions { 0 < count }
+    requires few { count ≤ 2 ^ 20 }
+    requires from { (o : ℕ) → o < length readers.now → pos 0 ≤ℤ (reader_at readers.now o).at }
+    ensures cells { AreCells result }
+    ensures count { result.count ≡ count }
+    ensures aligned { AreAligned result readers.now }
+{
+    let grain = grain_of(readers);
+    let pad = first_place(&readers[0]) % grain;
+    Cells {
+        count,
+        grain: grain as usize,
+        second: 0,
+        pad: pad as usize,
+    }
+}
+
+/// The cells of a sum whose readers come to blocks at the borders of cells, where there are some.
+fn read_cells(readers: &[Reader], count: usize) -> Cells
+    requires some { 0 < length readers.now }
+    requires positions { 0 < count }
+    requires few { count ≤ 2 ^ 20 }
+    requires from { (o : ℕ) → o < length readers.now → pos 0 ≤ℤ (reader_at readers.now o).at }
+    ensures cells { AreCells result }
+    ensures count { result.count ≡ count }
+    ensures aligned { AreAligned result readers.now }
+{
+    let first = place_in_block(&readers[0]);
+    let other = other_place(readers, first);
+    if !are_in_either(readers, first, other) {
+        return fine_cells(readers, count);
+    }
+    two_cells(count, first, other)
+}
+
+/// The cells of a sum, of which one begins wherever a reader comes to a block. A sum without readers is one cell.
 pub(crate) fn cells_for(readers: &[Reader], count: usize) -> Cells
     requires room { count ≤ 2 ^ 41 }
     requires few { 0 < length readers.now → count ≤ 2 ^ 20 }
@@ -159,6 +270,7 @@ pub(crate) fn cells_for(readers: &[Reader], count: usize) -> Cells
         return Cells {
             count,
             grain: 16,
+            second: 0,
             pad: 0,
         };
     }
@@ -166,14 +278,9 @@ pub(crate) fn cells_for(readers: &[Reader], count: usize) -> Cells
         return Cells {
             count,
             grain: count,
+            second: 0,
             pad: 0,
         };
     }
-    let grain = grain_of(readers);
-    let pad = first_place(&readers[0]) % grain;
-    Cells {
-        count,
-        grain: grain as usize,
-        pad: pad as usize,
-    }
+    read_cells(readers, count)
 }

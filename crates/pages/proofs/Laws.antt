@@ -72,13 +72,13 @@ first-items n len blank =
     let f = item_at (replicate n 0) (replicate 16 blank) blank in
     same_lists _ _ (length-map-range_with_len f 0 len ∙ sym (length-replicate len blank))
     (λ k d lt.
-      let less : k < len = omega (arith, length-map-range_with_len f 0 len) in
-      let z = zeros n (k / 16) in
-      let at : 16 * get_or (replicate n 0) (k / 16) 0 + k % 16 ≡ k % 16 = omega arith in
-      get_or-map-range_with_len f 0 len k k d less (omega arith)
-      ∙ ap (λ i. get_or (replicate 16 blank) i blank) at
-      ∙ get_or-replicate 16 (k % 16) blank blank (omega arith)
-      ∙ sym (get_or-replicate len k blank d less))
+    let less : k < len = omega (arith, length-map-range_with_len f 0 len) in
+    let z = zeros n (k / 16) in
+    let at : 16 * get_or (replicate n 0) (k / 16) 0 + k % 16 ≡ k % 16 = omega arith in
+    get_or-map-range_with_len f 0 len k k d less (omega arith)
+    ∙ ap (λ i. get_or (replicate 16 blank) i blank) at
+    ∙ get_or-replicate 16 (k % 16) blank blank (omega arith)
+    ∙ sym (get_or-replicate len k blank d less))
 
 -- ---- one more page
 
@@ -176,19 +176,19 @@ put-items ns items blank x at len is own lt =
     same_lists _ _
     (length-map-range_with_len f 0 len ∙ sym (length-set (map g (range_with_len 0 len)) at x ∙ long))
     (λ k d less.
-      let low : k < len = omega (arith, length-map-range_with_len f 0 len) in
-      let left = get_or-map-range_with_len f 0 len k k d low (omega arith) in
-      elim (cases_eq k at) [
-        | inl same ↦
-            let here : item_at ns (set items place x) blank k ≡ x = rw same (get_or-set_same items place x blank within) in
-            left ∙ here ∙ sym (rw same (get_or-set_same (map g (range_with_len 0 len)) at x d (omega arith)))
-        | inr other ↦
-            let spot = 16 * get_or ns (k / 16) 0 + k % 16 in
-            let ne : spot ≡ place → ⊥ = λ e.
-              let pages : k / 16 ≡ at / 16 = sym (is.apart (at / 16) (k / 16) own (omega arith)) in
-              other (omega arith) in
-            let here : get_or (set items place x) spot blank ≡ get_or items spot blank = rw get_or-set_other refl in
-            let there : get_or (set (map g (range_with_len 0 len)) at x) k d ≡ get_or (map g (range_with_len 0 len)) k d =
-            rw get_or-set_other refl in
-            left ∙ here ∙ sym (there ∙ get_or-map-range_with_len g 0 len k k d low (omega arith))
-      ])
+    let low : k < len = omega (arith, length-map-range_with_len f 0 len) in
+    let left = get_or-map-range_with_len f 0 len k k d low (omega arith) in
+    elim (cases_eq k at) [
+      | inl same ↦
+          let here : item_at ns (set items place x) blank k ≡ x = rw same (get_or-set_same items place x blank within) in
+          left ∙ here ∙ sym (rw same (get_or-set_same (map g (range_with_len 0 len)) at x d (omega arith)))
+      | inr other ↦
+          let spot = 16 * get_or ns (k / 16) 0 + k % 16 in
+          let ne : spot ≡ place → ⊥ = λ e.
+          let pages : k / 16 ≡ at / 16 = sym (is.apart (at / 16) (k / 16) own (omega arith)) in
+          other (omega arith) in
+          let here : get_or (set items place x) spot blank ≡ get_or items spot blank = rw get_or-set_other refl in
+          let there : get_or (set (map g (range_with_len 0 len)) at x) k d ≡ get_or (map g (range_with_len 0 len)) k d =
+          rw get_or-set_other refl in
+          left ∙ here ∙ sym (there ∙ get_or-map-range_with_len g 0 len k k d low (omega arith))
+    ])

@@ -32,12 +32,7 @@ impl<T> Model for Pages<T> {
 }
 
 /// Where the items of a page stand. They get a place of their own if they have none.
-fn page_for<T: Copy>(
-    numbers: &mut Vec<usize>,
-    items: &mut Vec<T>,
-    page: usize,
-    blank: T,
-) -> usize
+fn page_for<T: Copy>(numbers: &mut Vec<usize>, items: &mut Vec<T>, page: usize, blank: T) -> usize
     requires pages { ArePages numbers.old.items items.old.items blank }
     requires within { page < length numbers.old.items }
     requires room { 16 * (1 + length numbers.old.items) ≤ vec_capacity items.old }

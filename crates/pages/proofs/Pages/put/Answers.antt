@@ -18,7 +18,7 @@ invariant_of-self g c =
     let place = 16 * c.page_for-number.result + c.args.at % 16 in
     record {
       pages = put-pages c.page_for-number.new.numbers.items c.page_for-number.new.items.items p.blank c.args.item place
-      e.pages (omega (arith, e.own));
+          e.pages (omega (arith, e.own));
       enough = omega (arith, e.count, c.self.invariant.enough);
       room = e.room;
     }

@@ -8,7 +8,7 @@ use Rattle.descent.proofs.estimates.Estimates.zeros.Goals as goal
 
 pub invariant_of-result : goal.invariant_of-result
 invariant_of-result c =
-    let xs = c.in_ok-items.items.items in
-    let e : xs ≡ replicate c.args.count (pos 0) = search rules in
+    let xs = c.in_ok-items.items in
+    let e : xs ≡ replicate c.args.count (pos 0) = c.in_ok-items.ensures in
     sym (ap (λ (ys : List ℤ). int_wrap w128 (total_below (reading ys) (length xs))) e
     ∙ ap (int_wrap w128) (total-zeros c.args.count (length xs)) ∙ int_wrap_fits w128 (pos 0) (search rules))

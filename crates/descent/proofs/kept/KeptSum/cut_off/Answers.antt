@@ -2,7 +2,7 @@ use Rattle.std.proofs.Common.{◌≡◌, ℕ, ◌+◌, ◌-◌, ◌*◌, ◌<◌
 use Rattle.std.specs.Prelude.{◌⊎◌}
 use Rattle.std.proofs.lemmas.List.{get_or_default}
 use Rattle.descent.specs.declared.readers.Reader.{Reader}
-use Rattle.descent.specs.Cells.{offset_of}
+use Rattle.descent.specs.Cells.{begin_of, offset_of}
 use Rattle.descent.specs.Held.{shown}
 use Rattle.descent.specs.Said.{AllStay, AreRead, SomeComes}
 use Rattle.descent.specs.Settled.{lens_of, IsTrimmed}
@@ -40,7 +40,7 @@ cell_at-next-requires-clause-aligned g c =
     let u : c.offset-until.result ≡ offset_of k.cells (at + lens_of k at) = c.offset-until.ensures ∙ ap (λ m. offset_of k.cells (at + m)) (sym e) in
     let ends : (n ≡ c.offset-until.result - c.offset-from.result) ⊎ SomeComes k.readers.items (c.offset-from.result + n) = subst (λ (rs : List Reader). (n ≡ c.offset-until.result - c.offset-from.result) ⊎ SomeComes rs (c.offset-from.result + n)) c.as_slice.ensures.value c.stretch-len.ensures.ends in
     let ends-there : (n ≡ c.offset-until.result - offset_of k.cells at) ⊎ SomeComes k.readers.items (offset_of k.cells at + n) = subst (λ f. (n ≡ c.offset-until.result - f) ⊎ SomeComes k.readers.items (f + n)) c.offset-from.ensures ends in
-    subst (λ f. (f + n ≡ k.cells.count) ⊎ ((q : ℕ) × (f + n + k.cells.pad ≡ k.cells.grain * q))) (sym c.offset-from.ensures)
+    subst (λ f. (f + n ≡ k.cells.count) ⊎ ((q : ℕ) × (f + n + k.cells.pad ≡ begin_of k.cells q))) (sym c.offset-from.ensures)
     (cut-border k at n (c.offset-until.result - offset_of k.cells at) shaped.can.read.cells shaped.aligned lies c.requires.piece (ap (λ m. m - offset_of k.cells at) u) ends-there)
 
 pub trim-requires-clause-least : goal.trim-requires-clause-least
@@ -85,3 +85,41 @@ returns-clause-still g c =
     let cut = shown c.args.tables.now in
     let n = c.stretch-len.result in
     subst (λ f. AllStay cut k.readers.items f n) c.offset-from.ensures (subst (λ (rs : List Reader). AllStay cut rs c.offset-from.result n) c.as_slice.ensures.value c.stretch-len.ensures.still)
+
+pub overflow_sub-until : goal.overflow_sub-until
+overflow_sub-until g c =
+    let k = c.args.self.now in
+    let at = c.args.c in
+    let shaped = c.requires.say.2 in
+    let lies = piece-in (shown c.args.tables.now) c.requires.say.0 k at shaped c.requires.piece in
+    let e : lens_of k at ≡ c.index.result.now = get_or_default k.lens.items at 0 c.index.result.now lies.listed ∙ sym c.index.ensures in
+    let u : c.offset-until.result ≡ offset_of k.cells (at + lens_of k at) = c.offset-until.ensures ∙ ap (λ m. offset_of k.cells (at + m)) (sym e) in
+    omega (arith, u, lies.low, c.offset-from.ensures)
+
+pub overflow_sub-next : goal.overflow_sub-next
+overflow_sub-next g c =
+    let k = c.args.self.now in
+    let at = c.args.c in
+    let shaped = c.requires.say.2 in
+    let lies = piece-in (shown c.args.tables.now) c.requires.say.0 k at shaped c.requires.piece in
+    let e : lens_of k at ≡ c.index.result.now = get_or_default k.lens.items at 0 c.index.result.now lies.listed ∙ sym c.index.ensures in
+    let u : c.offset-until.result ≡ offset_of k.cells (at + lens_of k at) = c.offset-until.ensures ∙ ap (λ m. offset_of k.cells (at + m)) (sym e) in
+    let next : offset_of k.cells c.cell_at-next.result ≡ offset_of k.cells at + c.stretch-len.result = c.cell_at-next.ensures.offset ∙ ap (λ f. f + c.stretch-len.result) c.offset-from.ensures in
+    let is = cut-at k at c.cell_at-next.result c.stretch-len.result shaped.can.read.cells lies c.cell_at-next.ensures.within next c.stretch-len.ensures.some (omega (arith, u, c.stretch-len.ensures.within, c.offset-from.ensures)) in
+    omega (arith, is.low)
+
+pub trim-requires-clause-some : goal.trim-requires-clause-some
+trim-requires-clause-some g c =
+    let k = c.args.self.now in
+    let at = c.args.c in
+    let shaped = c.requires.say.2 in
+    let lies = piece-in (shown c.args.tables.now) c.requires.say.0 k at shaped c.requires.piece in
+    let e : lens_of k at ≡ c.index.result.now = get_or_default k.lens.items at 0 c.index.result.now lies.listed ∙ sym c.index.ensures in
+    let u : c.offset-until.result ≡ offset_of k.cells (at + lens_of k at) = c.offset-until.ensures ∙ ap (λ m. offset_of k.cells (at + m)) (sym e) in
+    let next : offset_of k.cells c.cell_at-next.result ≡ offset_of k.cells at + c.stretch-len.result = c.cell_at-next.ensures.offset ∙ ap (λ f. f + c.stretch-len.result) c.offset-from.ensures in
+    let is = cut-at k at c.cell_at-next.result c.stretch-len.result shaped.can.read.cells lies c.cell_at-next.ensures.within next c.stretch-len.ensures.some (omega (arith, u, c.stretch-len.ensures.within, c.offset-from.ensures)) in
+    omega (arith, is.low)
+
+pub trim-requires-clause-within : goal.trim-requires-clause-within
+trim-requires-clause-within g c =
+    (piece-in (shown c.args.tables.now) c.requires.say.0 c.args.self.now c.args.c c.requires.say.2 c.requires.piece).whole

@@ -1,9 +1,12 @@
 #!/bin/sh
 # Runs each command that README.md and the documents under docs/ show, in order and in an empty folder, and compares what it
 # prints with what they say. Where a line of the document ends with `...`, only its front is compared. It is run by hand; it
-# ends with 0 where all is as it is shown.
+# ends with 0 where all is as it is shown. Some of the commands need GNU parallel and bc.
 # Usage: examples/check_walk.sh
 set -eu
+for tool in parallel bc; do
+    command -v "$tool" > /dev/null || { echo "$0: $tool is not installed" >&2; exit 2; }
+done
 top=$(CDPATH= cd -- "$(dirname -- "$0")/.." && pwd)
 folder=$(mktemp -d)
 trap 'rm -rf "$folder"' EXIT
@@ -12,6 +15,10 @@ ln -s "$top/bin" bin
 ln -s "$top/examples" examples
 ln -s "$top/docs" docs
 ln -s "$top/README.md" README.md
+
+# What the commands below say on standard error is not shown, so the program is built here where it has not been yet.
+bin/platodb new built.store 0 0 > /dev/null
+rm built.store
 
 # The commands of a document with what they print, in turns: a line `$ COMMAND`, the lines behind it, and a line `.`.
 shown() {

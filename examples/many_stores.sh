@@ -4,7 +4,18 @@
 # Usage: examples/many_stores.sh BUDGET QUERY STORE...
 set -eu
 [ $# -ge 3 ] || { echo "usage: $0 BUDGET QUERY STORE..." >&2; exit 2; }
-platodb=${PLATODB:-$(CDPATH= cd -- "$(dirname -- "$0")/.." && pwd)/bin/platodb}
+for tool in parallel bc; do
+    command -v "$tool" > /dev/null || { echo "$0: $tool is not installed" >&2; exit 2; }
+done
+# To bc a word is a number too, so a budget that is none would be taken for another.
+case $1 in
+"" | *[!0-9]*)
+    echo 'usage fault'
+    exit 2
+    ;;
+esac
+self=$(readlink -f -- "$0")
+platodb=${PLATODB:-$(dirname -- "$(dirname -- "$self")")/bin/platodb}
 budget=$1
 query=$2
 shift 2

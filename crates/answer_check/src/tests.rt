@@ -1,7 +1,7 @@
 ghost use Rattle.std.specs.Prelude.{◌≡◌, true};
 ghost use Rattle.segment.specs.Measure.{AreReadings};
 
-use crate::{CertErr, CertKey, Verdict, read_cert, verify, write_cert};
+use crate::{Cert, CertErr, CertKey, Verdict, read_cert, verify, write_cert};
 use descent::{Answer, CutRow, Rows};
 use expr::Name;
 use expr_parse::parse;
@@ -74,15 +74,13 @@ fn writes_a_certificate(rt: HostRuntime) -> Result<(), Fail> {
     Ok(())
 }
 
-/// The verdict on a certificate of the sum of all readings.
-fn verdict_on(alloc: Global, budget: u128, cut: &str, hi: i128, lo: i128) -> Result<Verdict, Fail> {
+/// A certificate of the sum of all readings.
+fn certificate(alloc: Global, budget: u128, cut: &str, hi: i128, lo: i128) -> Result<Cert, Fail> {
     let text = format!(in alloc;
         r#"{{"budget":"{budget}","cut":[{cut}],"hi":"{hi}","lo":"{lo}","query":"sum(x,0,32)"}}"#
     ).map_err(|_| "a text")?;
-    let store = turns(alloc)?;
     let cert = read_cert(alloc, text.as_bytes()).map_err(|_| "a certificate")?;
-    let verdict = verify(alloc, &store, &cert).map_err(|_| "a verdict")?;
-    Ok(verdict)
+    Ok(cert)
 }
 
 #[test]
@@ -96,6 +94,8 @@ fn checks_what_is_written(rt: HostRuntime) -> Result<(), Fail> {
 
 #[test]
 fn checks_what_was_changed(rt: HostRuntime) -> Result<(), Fail> {
+    let alloc = rt.alloc();
+    let store = turns(alloc)?;
     let proved = Iv::of(80, 240).ok_or("an interval")?;
     let halves = r#"["x",[[0,16,1],[16,16,0]]]"#;
     let twice = r#"["x",[[0,16,1],[16,16,0]]],["x",[]]"#;
@@ -107,8 +107,8 @@ fn checks_what_was_changed(rt: HostRuntime) -> Result<(), Fail> {
         (319, halves, 239, 80, Verdict::Escapes(proved)),
         (159, halves, 240, 80, Verdict::Wide(160)),
     ] {
-        let verdict = verdict_on(rt.alloc(), budget, cut, hi, lo)?;
-        assert_eq!(rt; verdict, want);
+        let cert = certificate(alloc, budget, cut, hi, lo)?;
+        assert_eq!(rt; verify(alloc, &store, &cert), Ok(want));
     }
     Ok(())
 }

@@ -1,6 +1,7 @@
 pub mod Appended
 pub mod Bounds
 pub mod CanonicalBytes
+pub mod CanonicalLaws
 pub mod CanonicalNesting
 pub mod CanonicalParsed
 pub mod CanonicalSaid

@@ -1,7 +1,10 @@
 -- The certificate that is printed of a store holds over it.
-use Rattle.std.proofs.Common.{◌≡◌, ℕ, Bool, true, false, List, Option, Some, None, Result, Ok, Err, refl, subst}
+use Rattle.std.proofs.Common.{◌≡◌, ℕ, Bool, true, false, List, Option, Some, None, Result, Ok, Err, refl, ◌∙◌, ap, sym, subst}
 use Rattle.std.specs.Prelude.{if◌then◌else◌}
 use Rattle.answer_check.proofs.Answering.{answers_hold}
+use Rattle.expr_parse.proofs.CanonicalLaws.{canonical-parsed}
+use Rattle.expr_parse.specs.Parsed.{parsed}
+use Rattle.expr_parse.specs.declared.error.ParseErr.{ParseErr}
 use Rattle.semantics.specs.Admission.{NotAdmitted, refusal_of}
 use Rattle.semantics.specs.Plain.{plain}
 use Rattle.semantics.specs.Term.{QueryTerm}
@@ -12,11 +15,11 @@ use Rattle.store_file.specs.declared.decoding.StoreErr.{StoreErr}
 use Rattle.store_file.specs.declared.decoding.StoreErr.TheVariants as stored
 use Rattle.store_file.proofs.DecodedLaws.{image-decode}
 use Rattle.query_cli.specs.Asked.{Asked}
-use Rattle.query_cli.specs.Commands.Query.{are_bytes, asked_of, asked_of_none, asked_over, query_in}
+use Rattle.query_cli.specs.Commands.Query.{are_bytes, asked_of, asked_of_none, asked_over}
 use Rattle.query_cli.specs.Laws.{CertificatesHold}
 use Rattle.query_cli.specs.Reading.{File, Shown, answered, held, missing, no_store, oversized, refused}
-use Rattle.query_cli.specs.Refusals.{Refusal, query_refusal}
-use Rattle.query_cli.specs.Steps.{and_then, unless_refused}
+use Rattle.query_cli.specs.Refusals.{Refusal, bad_query, query_refusal}
+use Rattle.query_cli.specs.Steps.{and_then, refused_as, unless_refused}
 use Rattle.query_cli.proofs.PartLaws.{is_bytes}
 
 -- a query is asked of a store, over which it is admitted
@@ -61,12 +64,24 @@ of_file shown q name (held bytes) asked h = of_bytes shown q bytes (are_bytes by
 of_file shown q name missing asked h = cc
 of_file shown q name oversized asked h = cc
 
-of_text : (shown : Shown) (name : List ℕ) (f : File) (x : Result QueryTerm Refusal) (asked : Asked)
-    → and_then x (λ q. asked_over shown q name f) ≡ Ok (Some asked) → (q : QueryTerm) × IsAskedOf q asked
-of_text shown name f (Ok q) asked h = (q, of_file shown q name f asked h)
-of_text shown name f (Err r) asked h = cc
+-- the text is parsed as a query, which is asked of a store
+record IsAskedBy (text : List ℕ) (asked : Asked) : Type 0 where
+  pub parsed_as : parsed text ≡ Ok asked.query
+  pub asked_of : IsAskedOf asked.query asked
+
+of_text : (shown : Shown) (name : List ℕ) (f : File) (text : List ℕ) (x : Result QueryTerm ParseErr) (asked : Asked)
+    → parsed text ≡ x → and_then (refused_as bad_query x) (λ q. asked_over shown q name f) ≡ Ok (Some asked)
+    → IsAskedBy text asked
+of_text shown name f text (Ok q) asked is h =
+    let of = of_file shown q name f asked h in
+    record {
+      parsed_as = is ∙ ap Ok (sym of.query_is);
+      asked_of = record { query_is = refl; store = of.store; admitted = of.admitted };
+    }
+of_text shown name f text (Err e) asked is h = cc
 
 pub certificates-hold : CertificatesHold
-certificates-hold reading c asked answer found is spelled =
-    let a = of_text reading.shown c.store (reading.store c.store) (query_in c.text) asked found in
-    answers_hold asked.store asked.query c.budget answer a.1.store spelled a.1.admitted is.tells
+certificates-hold reading c asked answer found is =
+    let by = of_text reading.shown c.store (reading.store c.store) c.text (parsed c.text) asked refl found in
+    answers_hold asked.store asked.query c.budget answer by.asked_of.store
+    (canonical-parsed c.text asked.query by.parsed_as) by.asked_of.admitted is.tells

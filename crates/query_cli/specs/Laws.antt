@@ -4,8 +4,6 @@ use Rattle.answer_check.specs.Certificate.{certificate_for}
 use Rattle.answer_check.specs.Verdict.{answer_of}
 use Rattle.answer_check.specs.declared.verdict.Verdict.TheVariants.{Holds}
 use Rattle.descent.specs.declared.descents.Answer.{Answer}
-use Rattle.expr_parse.specs.Canonical.{canonical_text}
-use Rattle.expr_parse.specs.Parsed.{parsed}
 use Rattle.semantics.specs.Files.{Files, file_of}
 use Rattle.store_file.specs.Added.{names_in}
 use Rattle.store_file.specs.StoreValue.{StoreValue, IsStoreValue, store_image}
@@ -32,5 +30,4 @@ OnlyStoresAreAccepted = (files : Files) (c : CheckCommand) (bytes : List ℕ) (m
 abbrev pub CertificatesHold : Type 0
 CertificatesHold = (reading : Reading) (c : QueryCommand) (asked : Asked) (answer : Answer)
     → asked_by reading c ≡ Ok (Some asked) → IsAnswerOf asked c.budget answer
-    → parsed (canonical_text asked.query) ≡ Ok asked.query
     → answer_of asked.store (certificate_for (names_in asked.store) asked.query c.budget answer) ≡ Ok Holds

@@ -1,5 +1,5 @@
 -- Items in pages of 16, of which those that nothing was put in stand together.
-use Rattle.std.specs.Prelude.{◌≡◌, ℕ, zero, suc, ◌+◌, ◌*◌, ◌/◌, ◌%◌, ◌<◌, ◌≤◌, List, [], ◌∷◌, length, map, get_or, vec_capacity}
+use Rattle.std.specs.Prelude.{◌≡◌, ℕ, zero, suc, ◌+◌, ◌*◌, ◌/◌, ◌%◌, ◌<◌, ◌≤◌, List, [], ◌∷◌, length, map, get_or, box_value, vec_capacity}
 use Rattle.std.specs.List.{range_with_len}
 use Rattle.pages.specs.declared.Pages.TheInside.{Inside}
 
@@ -21,9 +21,9 @@ pub record ArePages {T : Type 0} (numbers : List ℕ) (items : List T) (blank : 
   pub empty : (i : ℕ) → i < 16 → get_or items i blank ≡ blank
 
 pub record IsPaged {T : Type 0} (p : Inside T) : Type 0 where
-  pub pages : ArePages p.numbers.items p.items.items p.blank
+  pub pages : ArePages p.numbers.items p.items.items (box_value p.blank)
   pub enough : p.len ≤ 16 * length p.numbers.items
   pub room : 16 * (1 + length p.numbers.items) ≤ vec_capacity p.items
 
 abbrev pub view_of : {T : Type 0} → Inside T → List T
-view_of p = map (item_at p.numbers.items p.items.items p.blank) (range_with_len 0 p.len)
+view_of p = map (item_at p.numbers.items p.items.items (box_value p.blank)) (range_with_len 0 p.len)

@@ -12,8 +12,8 @@ use std::marker::Model;
 #[derive(Drop)]
 pub struct Pages<T> {
     len: usize,
-    /// What each item is until another one is put.
-    blank: T,
+    /// What each item is until another one is put. It is boxed so that all lists take the same room.
+    blank: Box<T>,
     /// Where the items of each page stand, in pages. At 0 are those of all pages where nothing was put.
     numbers: Vec<usize>,
     items: Vec<T>,
@@ -68,6 +68,7 @@ impl<T: Copy> Pages<T> {
         let Ok(()) = items.resize(16, blank) else {
             unreachable!()
         };
+        let blank = Box::new(alloc, blank)?;
         Ok(Pages {
             len,
             blank,
@@ -87,7 +88,15 @@ impl<T: Copy> Pages<T> {
         requires { at < length self.now }
         ensures { result ≡ slice_index_or self.now at result }
     {
-        self.items[16 * self.numbers[at / 16] + at % 16]
+        *self.item(at)
+    }
+
+    /// Lends the item at a place.
+    pub fn item(&self, at: usize) -> &T
+        requires { at < length self.now }
+        ensures { result.now ≡ slice_index_or self.now at result.now }
+    {
+        &self.items[16 * self.numbers[at / 16] + at % 16]
     }
 
     /// Puts an item at a place.
@@ -95,7 +104,7 @@ impl<T: Copy> Pages<T> {
         requires { at < length self.old }
         ensures { self.new ≡ slice_set self.old at item }
     {
-        let number = page_for(&mut self.numbers, &mut self.items, at / 16, self.blank);
+        let number = page_for(&mut self.numbers, &mut self.items, at / 16, *self.blank);
         self.items[16 * number + at % 16] = item;
     }
 }
@@ -114,7 +123,7 @@ mod tests {
         pages.put(47, 3);
         pages.put(40, 4);
         assert_eq!(rt; (pages.get(40), pages.get(99), pages.get(47)), (4, 2, 3));
-        assert_eq!(rt; (pages.get(39), pages.get(41), pages.get(0)), (7, 7, 7));
+        assert_eq!(rt; (pages.get(39), *pages.item(41), pages.get(0)), (7, 7, 7));
         Ok(())
     }
 }

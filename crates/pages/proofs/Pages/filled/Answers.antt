@@ -1,5 +1,6 @@
 use Rattle.std.proofs.Common.{◌≡◌, List, ℕ, length, replicate, map, ap, ap₂, ◌∙◌, arith}
 use Rattle.std.specs.List.{range_with_len}
+use Rattle.std.specs.Prelude.{box_value}
 use Rattle.pages.specs.Pages.{item_at}
 use Rattle.pages.proofs.Laws.{first-pages, first-items, zeros-length}
 use Rattle.pages.proofs.Pages.filled.Goals as goal
@@ -15,9 +16,10 @@ invariant_of-result g c =
     let exact = c.in_ok-items.ensures.exact in
     let more = c.resize.ensures.capacity in
     let up = c.div_ceil-pages.ensures in
+    let boxed : box_value c.in_ok-blank.blank ≡ c.args.blank = c.in_ok-blank.ensures.ok in
     let count : length c.in_ok-numbers.numbers.items ≡ n = ap length numbers ∙ zeros-length n in
     record {
-      pages = rw (numbers, items) (first-pages n c.args.blank);
+      pages = rw (numbers, items, boxed) (first-pages n c.args.blank);
       enough = omega arith;
       room = omega arith;
     }
@@ -30,5 +32,7 @@ returns g c =
     let grown = rw c.in-Ok.is at c.resize.ensures.items in
     let items : c.resize.new.self.items ≡ replicate 16 c.args.blank =
     rw (c.in_ok-items.ensures.items, c.in_ok-items.ensures.len) at grown in
-    ap₂ (λ (ns : List ℕ) (xs : List g.row.T.Denot). map (item_at ns xs c.args.blank) (range_with_len 0 c.args.len))
-    numbers items ∙ first-items n c.args.len c.args.blank
+    let boxed : box_value c.in_ok-blank.blank ≡ c.args.blank = c.in_ok-blank.ensures.ok in
+    ap₂ (λ (ns : List ℕ) (xs : List g.row.T.Denot). map (item_at ns xs (box_value c.in_ok-blank.blank)) (range_with_len 0 c.args.len))
+    numbers items
+    ∙ ap (λ (b : g.row.T.Denot). map (item_at (replicate n 0) (replicate 16 c.args.blank) b) (range_with_len 0 c.args.len)) boxed ∙ first-items n c.args.len c.args.blank

@@ -1,5 +1,5 @@
 -- How far a series may go whose sums are worked out.
-use Rattle.std.specs.Prelude.{ℕ, ◌≤◌}
+use Rattle.std.specs.Prelude.{◌≤◌}
 use Rattle.semantics.specs.Limits.{series_depth, IsNearSeries}
 use Rattle.semantics.specs.Measures.{names_in, rank_of}
 use Rattle.semantics.specs.Most.{most_depth, most_names, most_rank}

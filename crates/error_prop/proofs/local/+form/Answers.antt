@@ -1,5 +1,5 @@
-use Rattle.std.proofs.Common.{arith, rules, ap, sym, subst, ◌∙◌, ◌≡◌, ◌++◌, take, drop, length, ℕ, ℤ, pos}
-use Rattle.std.specs.Prelude.{◌-ℤ◌, ◌+ℤ◌, slice_set}
+use Rattle.std.proofs.Common.{arith, rules, ap, sym, subst, ◌∙◌, ◌≡◌, take, drop, length}
+use Rattle.std.specs.Prelude.{◌-ℤ◌, slice_set}
 use Rattle.std.proofs.lemmas.Int.{to_z-of_z}
 use mir.Val.{SFits, to_z, of_z}
 use mir.Syntax.{w64, w128}
@@ -7,7 +7,7 @@ use Rattle.expr.specs.Terms.{term_of}
 use Rattle.semantics.specs.Measures.{names_in}
 use Rattle.semantics.specs.Term.{Term, base, constant, bare, shift}
 use Rattle.bounds.specs.Shape.{constant_shape}
-use Rattle.error_prop.specs.Locals.{CanForm, IsFormed, IsHead, ProductNeeds}
+use Rattle.error_prop.specs.Locals.{CanForm, IsFormed, IsHead}
 use Rattle.error_prop.proofs.Arms.{plus_ready, minus_ready, times_ready, plus_done, minus_done, times_done, times_asks, shift_done, base_weights, constant_formed, bare_formed, AreFormed, AreParts, ProductAsks}
 use Rattle.error_prop.proofs.local.+form.Goals as goal
 
@@ -213,11 +213,25 @@ head_of-returns-in-Shift t c =
     (sym (ap term_of c.in-Shift.is ∙ ap (λ x. shift x c.in-Shift.k) (ap term_of (sym c.deref-in-Shift.ensures))))
     (shift_done U c.in-Shift.k c.args.segs.now c.head_of.new.weights c.head_of.result c.args.from c.moved_back-back.result c.args.len v h)
 
+pub head_of-base_of-requires : goal.head_of-base_of-requires
+head_of-base_of-requires t c =
+    let e : term_of c.args.t.now ≡ base c.in-Base.field-0 = ap term_of c.in-Base.is in
+    let f : SFits w64 c.args.from = c.ranges.from in
+    (
+      c.in-Base.field-0,
+      subst (λ i. CanForm (base c.in-Base.field-0) c.args.segs.now (length c.args.weights.now) i c.args.len) (sym (to_z-of_z w64 c.args.from f))
+          (subst (λ (x : Term). CanForm x c.args.segs.now (length c.args.weights.now) c.args.from c.args.len) e c.requires),
+    )
+
 pub head_of-returns-in-Base : goal.head_of-returns-in-Base
 head_of-returns-in-Base t c =
     let e : term_of c.args.t.now ≡ base c.in-Base.field-0 = ap term_of c.in-Base.is in
-    subst (λ (x : Term). IsFormed x c.args.segs.now (slice_set c.args.weights.now 0 1) c.base_head.result c.args.from c.args.len) (sym e)
-    (record { weights = base_weights c.args.weights.now (c.requires.room ∙ ap names_in e); head = search rules })
+    let f : SFits w64 c.args.from = c.ranges.from in
+    let i = to_z-of_z w64 c.args.from f in
+    let can : CanForm (base c.in-Base.field-0) c.args.segs.now (length c.args.weights.now) c.args.from c.args.len = subst (λ (x : Term). CanForm x c.args.segs.now (length c.args.weights.now) c.args.from c.args.len) e c.requires in
+    subst (λ (x : Term). IsFormed x c.args.segs.now c.base_of.new.weights c.base_of.result c.args.from c.args.len) (sym e)
+    (subst (λ j. IsFormed (base c.in-Base.field-0) c.args.segs.now c.base_of.new.weights c.base_of.result j c.args.len) i
+    (c.base_of.ensures c.in-Base.field-0 (subst (λ j. CanForm (base c.in-Base.field-0) c.args.segs.now (length c.args.weights.now) j c.args.len) (sym i) can)))
 
 pub head_of-returns-in-Const : goal.head_of-returns-in-Const
 head_of-returns-in-Const t c =

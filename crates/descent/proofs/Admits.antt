@@ -1,25 +1,24 @@
 -- Admission looks at the series that a query names, and at no other.
-use Rattle.std.proofs.Common.{◌≡◌, ℕ, zero, suc, ◌+◌, ◌*◌, ◌^◌, ◌<◌, ◌≤◌, max, cond, Bool, true, false, inl, inr, ℤ, pos, Option, Some, None, List, [], ◌∷◌, ◌++◌, length, get_or, refl, sym, ap, ap₂, subst, ◌∙◌, arith}
+use Rattle.std.proofs.Common.{◌≡◌, ℕ, ◌+◌, ◌*◌, ◌^◌, ◌≤◌, max, cond, Bool, true, false, inl, inr, Option, Some, List, [], ◌∷◌, ◌++◌, refl, sym, ap, ap₂, subst, ◌∙◌}
 use Rattle.std.specs.Prelude.{◌||◌, find, slice_index, unsigned_abs}
 use Rattle.std.specs.List.{All, list_any}
 use Rattle.std.specs.Option.{option_map_or}
 use Rattle.std.proofs.lemmas.Bool.{cases_Bool}
 use Rattle.std.proofs.lemmas.List.Elements.{All-nil, All-cons, All-head, All-append}
-use Rattle.semantics.specs.Admission.{Fact, is_of, fact_at, is_unknown, count_at, greatest_at, series_names, query_names, longest, range_length, extent_of, bound_of}
+use Rattle.semantics.specs.Admission.{Fact, fact_at, is_unknown, count_at, greatest_at, series_names, query_names, longest, extent_of, bound_of}
 use Rattle.semantics.specs.Admitted.{IsKnown, IsInDomain, IsAdmitted, IsAdmittedSum}
 use Rattle.semantics.specs.Measures.{rank_of, units_of, FitsOver, InRange}
 use Rattle.semantics.specs.Names.{same_name}
-use Rattle.semantics.specs.Plain.{IsPlain}
 use Rattle.semantics.specs.Readings.{positions_in}
 use Rattle.semantics.specs.Term.{Term, base, constant, bare, plus, minus, times, shift, Range, QueryTerm, number, sum, variance, covariance, add, sub, mul}
-use Rattle.semantics.specs.Value.{domain_of, range_or}
+use Rattle.semantics.specs.Value.{range_or}
 use Rattle.segment.specs.declared.segments.Seg.{Seg}
 use Rattle.bounds.specs.Segments.{OfEachName}
 use Rattle.error_prop.specs.QueryOver.{OfEachSum}
 use Rattle.error_prop.proofs.QueryOverLaws.{same_domain}
 use Rattle.descent.specs.Rows.{Track}
 use Rattle.descent.specs.Choice.{Has}
-use Rattle.descent.specs.Held.{head_of, heads}
+use Rattle.descent.specs.Held.{heads}
 use Rattle.descent.specs.Known.{fact_of, facts_in, root_head, facts_from, heads_from}
 use Rattle.descent.proofs.Exact.{All-left, All-right}
 

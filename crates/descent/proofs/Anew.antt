@@ -1,11 +1,11 @@
 -- The rows that one gave way to are charged anew.
-use Rattle.std.proofs.Common.{◌≡◌, ℕ, zero, suc, ◌+◌, ◌*◌, ◌/◌, ◌^◌, ◌<◌, ◌≤◌, cond, Bool, true, false, inl, inr, ℤ, pos, Option, Some, None, List, [], ◌∷◌, ◌++◌, length, map, get_or, set, get_or-set_same, get_or-set_other, length-set, refl, sym, ap, subst, ◌∙◌, arith}
+use Rattle.std.proofs.Common.{◌≡◌, ℕ, zero, suc, ◌+◌, ◌/◌, ◌<◌, ◌≤◌, cond, true, false, inl, inr, ℤ, pos, Option, None, List, [], ◌∷◌, ◌++◌, length, get_or, set, get_or-set_same, get_or-set_other, length-set, refl, sym, ap, subst, ◌∙◌, arith}
 use Rattle.std.specs.Prelude.{is_some}
 use Rattle.segment.specs.declared.segments.Seg.{Seg}
 use Rattle.bounds.specs.Segments.{covers}
 use Rattle.tops.specs.Tops.{number}
 use Rattle.descent.specs.declared.kept.KeptSum.{KeptSum}
-use Rattle.descent.specs.Changed.{GaveWay, IsOpening, AreHalvesOfRow}
+use Rattle.descent.specs.Changed.{GaveWay, AreHalvesOfRow}
 use Rattle.descent.specs.Charges.{AreRecharged}
 use Rattle.descent.specs.Choice.{Has}
 use Rattle.descent.specs.Held.{Held, row_in, shown}

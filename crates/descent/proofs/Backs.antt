@@ -1,8 +1,7 @@
 -- Rows that take back the places of what they gave way to.
-use Rattle.std.proofs.Common.{◌≡◌, ℕ, zero, suc, ◌+◌, ◌-◌, ◌*◌, ◌/◌, ◌<◌, ◌≤◌, cond, if◌then◌else◌, ◌==◌, Bool, true, false, inl, inr, List, [], ◌∷◌, ◌++◌, length, map, set, get_or, arith, refl, sym, ap, ap₂, subst, ◌∙◌}
+use Rattle.std.proofs.Common.{◌≡◌, ℕ, zero, suc, ◌+◌, ◌-◌, ◌*◌, ◌/◌, ◌<◌, cond, if◌then◌else◌, ◌==◌, Bool, true, false, inl, inr, List, [], ◌∷◌, ◌++◌, length, map, set, get_or, arith, refl, sym, ap, ap₂, subst, ◌∙◌}
 use Rattle.std.specs.Prelude.{Option, None, Some, is_some, ◌&&◌, not, drop, ℤ}
-use Rattle.std.proofs.lemmas.Bool.{cases_Bool, cases_eq, eqb-true, eq-eqb, ne_eqb}
-use Rattle.std.proofs.lemmas.List.{length-set}
+use Rattle.std.proofs.lemmas.Bool.{cases_Bool, eqb-true, eq-eqb, ne_eqb}
 use Rattle.segment.specs.declared.segments.Seg.{Seg}
 use Rattle.descent.specs.declared.tables.Row.{Row}
 use Rattle.descent.specs.Rows.{Track, with_rows}
@@ -11,7 +10,7 @@ use Rattle.descent.specs.Choice.{Has}
 use Rattle.descent.specs.CutFields.{restored_at, CanGoBackAt}
 use Rattle.descent.specs.Held.{Held, row_in, is_closed_at}
 use Rattle.descent.specs.Laid.{blocks, present, IsLaid, held, replaced, restored, CanGoBack, AreHalvesOf, IsOpeningOf}
-use Rattle.descent.proofs.Places.{AreRows, IsFoundAt, found-at, found_held, stands_held}
+use Rattle.descent.proofs.Places.{AreRows, found-at}
 
 -- ---- the places
 

@@ -1,10 +1,10 @@
 -- The rows of tables begin at borders of blocks.
-use Rattle.std.proofs.Common.{◌≡◌, ℕ, ◌+◌, ◌*◌, ◌/◌, ◌<◌, inl, inr, List, [], ◌∷◌, length, map, get_or, refl, sym, ap, subst, ◌∙◌, arith}
+use Rattle.std.proofs.Common.{◌≡◌, ℕ, ◌+◌, ◌*◌, ◌/◌, ◌<◌, inl, inr, List, [], ◌∷◌, length, map, get_or, refl, ap, subst, ◌∙◌, arith}
 use Rattle.std.proofs.lemmas.Bool.{cases_lt}
 use Rattle.descent.specs.Choice.{Has}
 use Rattle.descent.specs.Held.{Held, row_in, shown}
 use Rattle.descent.specs.Readers.{track_at}
-use Rattle.descent.specs.Rows.{Row, Track, Cut, with_rows}
+use Rattle.descent.specs.Rows.{Row, Track}
 use Rattle.descent.specs.Settled.{AreAtBorders}
 use Rattle.descent.proofs.Anew.{shown-at}
 

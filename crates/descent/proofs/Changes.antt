@@ -1,6 +1,6 @@
 -- A step that can be taken back changed the cut as `HasChanged` says.
-use Rattle.std.proofs.Common.{◌≡◌, ℕ, zero, suc, ◌+◌, ◌*◌, ◌<◌, ◌≤◌, inl, inr, Option, Some, None, List, [], ◌∷◌, ◌++◌, length, map, get_or, refl, sym, ap, subst, ◌∙◌, arith}
-use Rattle.std.specs.Prelude.{◌==◌, if◌then◌else◌, drop, take}
+use Rattle.std.proofs.Common.{◌≡◌, ℕ, zero, suc, ◌+◌, ◌<◌, ◌≤◌, inl, inr, Some, None, List, [], ◌∷◌, ◌++◌, length, map, refl, sym, ap, subst, ◌∙◌, arith}
+use Rattle.std.specs.Prelude.{take}
 use Rattle.std.specs.Option.{option_map}
 use Rattle.std.specs.List.{All}
 use Rattle.std.proofs.lemmas.Bool.{eq-eqb, ne_eqb, cases_lt}
@@ -8,12 +8,12 @@ use Rattle.std.proofs.lemmas.List.{length-map}
 use Rattle.std.proofs.lemmas.List.Elements.{All-head, All-tail}
 use Rattle.bounds.specs.Segments.{TouchFrom}
 use Rattle.descent.specs.declared.tables.Row.{Row as TableRow}
-use Rattle.descent.specs.Changed.{AreHalvesOfRow, GaveWay, HasChanged, IsOpening}
+use Rattle.descent.specs.Changed.{AreHalvesOfRow, GaveWay, HasChanged}
 use Rattle.descent.specs.Choice.{Has}
 use Rattle.descent.specs.CutFields.{restored_at, CanGoBackAt}
 use Rattle.descent.specs.Held.{Held, head_of, row_in, shown}
 use Rattle.descent.specs.Laid.{held, restored, CanGoBack, AreHalvesOf, IsOpeningOf}
-use Rattle.descent.specs.Readers.{no_track, track_at}
+use Rattle.descent.specs.Readers.{track_at}
 use Rattle.descent.specs.Rows.{Row, Track, with_rows}
 use Rattle.descent.specs.Sound.{seg_of, IsSoundRow, IsSoundTrack}
 

@@ -1,5 +1,5 @@
 -- A weight of an occurrence changes: the row that it reads there is charged anew, and no other one.
-use Rattle.std.proofs.Common.{◌≡◌, ℕ, zero, suc, ◌+◌, ◌*◌, ◌/◌, ◌%◌, ◌^◌, ◌<◌, ◌≤◌, cond, Bool, true, false, inl, inr, ℤ, pos, ◌+ℤ◌, Option, Some, None, List, [], length, get_or, set, get_or-set_same, get_or-set_other, length-set, refl, sym, ap, subst, ◌∙◌, arith}
+use Rattle.std.proofs.Common.{◌≡◌, ℕ, zero, suc, ◌*◌, ◌%◌, ◌^◌, ◌<◌, ◌≤◌, cond, Bool, true, false, inl, inr, ℤ, pos, ◌+ℤ◌, None, List, [], length, set, get_or-set_same, get_or-set_other, length-set, refl, sym, ap, subst, ◌∙◌, arith}
 use Rattle.std.specs.Prelude.{◌==◌, is_some}
 use Rattle.std.proofs.lemmas.Bool.{cases_eq, cases_Bool, eqb-true}
 use Rattle.semantics.specs.Sums.{most_below, sum_below}
@@ -9,8 +9,8 @@ use Rattle.tops.specs.Tops.{number}
 use Rattle.descent.specs.declared.kept.KeptSum.{KeptSum}
 use Rattle.descent.specs.Cells.{cells_in, offset_of}
 use Rattle.descent.specs.Choice.{Has}
-use Rattle.descent.specs.Kept.{kept_in, kept_weight}
-use Rattle.descent.specs.KeptSums.{band_of, charge_in, kept_of, numbers_at, part_of, place_of, row_charge, AreCharged}
+use Rattle.descent.specs.Kept.{kept_in}
+use Rattle.descent.specs.KeptSums.{band_of, charge_in, numbers_at, part_of, place_of, row_charge, AreCharged}
 use Rattle.descent.specs.Readers.{reader_at, track_at}
 use Rattle.descent.specs.Rows.{Row, Cut}
 use Rattle.descent.specs.Sound.{IsSound}

@@ -1,13 +1,12 @@
 -- What the code finds from left to right is the choice.
-use Rattle.std.proofs.Common.{◌≡◌, ℕ, zero, suc, ◌+◌, ◌-◌, ◌*◌, ◌/◌, ◌^◌, ◌<◌, ◌≤◌, cond, Bool, true, false, inl, inr, ℤ, pos, negsuc, ◌-ℤ◌, ◌≤ℤ◌, ◌<ℤ◌, unsigned_abs, Option, Some, None, List, [], ◌∷◌, ◌++◌, length, map, get_or, refl, sym, ap, ap₂, subst, ◌∙◌, arith, append_assoc, append-nil, length-append}
-use Rattle.std.specs.Prelude.{nat_le, nat_lt, ◌==◌, if◌then◌else◌, is_some, slice_index}
+use Rattle.std.proofs.Common.{◌≡◌, ℕ, zero, suc, ◌+◌, ◌-◌, ◌*◌, ◌/◌, ◌^◌, ◌<◌, ◌≤◌, true, false, inl, inr, ℤ, pos, negsuc, ◌-ℤ◌, ◌≤ℤ◌, ◌<ℤ◌, Option, Some, None, List, [], ◌∷◌, length, get_or, refl, sym, ap, subst, ◌∙◌, arith, length-append}
+use Rattle.std.specs.Prelude.{nat_le, ◌==◌}
 use Rattle.std.specs.Int.{int_max}
 use Rattle.std.proofs.lemmas.Int.{ints, clamps}
-use Rattle.std.specs.List.{All, sum_by}
-use Rattle.std.proofs.lemmas.Bool.{cases_Bool, cases_lt, eq-eqb, ne_eqb}
+use Rattle.std.specs.List.{All}
+use Rattle.std.proofs.lemmas.Bool.{cases_lt, eq-eqb, ne_eqb}
 use Rattle.std.proofs.lemmas.Bool.Decides.{nat_tests}
-use Rattle.std.proofs.lemmas.List.Elements.{All-nil, All-cons, All-head, All-tail, All-append}
-use Rattle.std.proofs.lemmas.List.{map-append, length-map}
+use Rattle.std.proofs.lemmas.List.Elements.{All-nil, All-cons, All-append}
 use Rattle.std.proofs.Math.Nat.{div-lt_iff_lt-mul, mul-le-mul}
 use Rattle.semantics.specs.Admission.{Fact, SumTerm, sums_of, bound_of, extent_of, greatest_at}
 use Rattle.semantics.specs.Admitted.{IsAdmitted}
@@ -16,28 +15,21 @@ use Rattle.semantics.specs.Measures.{rank_of, units_of}
 use Rattle.semantics.specs.Plain.{IsPlain}
 use Rattle.semantics.specs.Readings.{from_zero, positions_in}
 use Rattle.semantics.specs.Term.{Term, Range, QueryTerm, number, sum, variance, covariance, add, sub, mul}
-use Rattle.semantics.specs.Value.{domain_of, range_or}
-use Rattle.segment.specs.declared.segments.Seg.{Seg}
 use Rattle.segment.specs.Measure.{unit}
-use Rattle.bounds.specs.Cut.{Entry, charge_by, greatest_weight, segs_of}
 use Rattle.error_prop.specs.declared.query.SumIn.{SumIn}
 use Rattle.error_prop.specs.declared.query.SumLine.{SumLine}
-use Rattle.error_prop.specs.Places.{end_of_name, places, flat, under, Place}
-use Rattle.error_prop.specs.QueryOver.{range_over, sums_over, whole}
-use Rattle.error_prop.proofs.PlaceLaws.{length-places}
+use Rattle.error_prop.specs.QueryOver.{sums_over, whole}
 use Rattle.error_prop.specs.Queries.{first_sum, interval_over, left_sums, line_of, lines_of, most_in, right_sums, AreWithinFacts, IsAdmittedWith}
-use Rattle.error_prop.specs.Sums.{charge_of as place_charge, charges_of}
 use Rattle.error_prop.proofs.QueryLaws.{bound_fits, fits, most_within}
-use Rattle.descent.specs.Rows.{Row, Track, Cut, units, segs_given, segs_of_row, segs_of_rows, entry_of, entries}
-use Rattle.descent.specs.Sums.{first_of, count_of, charge_of, sum_in}
-use Rattle.descent.specs.Choice.{Charged}
+use Rattle.descent.specs.Rows.{Cut, entries}
+use Rattle.descent.specs.Sums.{sum_in}
 use Rattle.descent.specs.Choice.{row_of as charged_by}
-use Rattle.descent.specs.Choice.{At, Has, choice, pick_if, heavier, heaviest, Line, side_by_side, says_weight, weight_of, whole_error, charge, charged_row, charged_in, charged_rows}
+use Rattle.descent.specs.Choice.{At, Has, choice, pick_if, heavier, heaviest, Line, side_by_side, says_weight, weight_of, whole_error}
 use Rattle.descent.specs.Charging.{weight_in, IsFirst, IsLight}
 use Rattle.descent.proofs.Exact.{units-some}
 use Rattle.descent.proofs.Heaviest.{heaviest-found}
 use Rattle.descent.proofs.Lines.{AreOf, lines_are}
-use Rattle.descent.proofs.Works.{counts, units-free}
+use Rattle.descent.proofs.Works.{counts}
 
 -- ---- the first of the heaviest, from left to right
 

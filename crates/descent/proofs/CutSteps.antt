@@ -1,5 +1,5 @@
 -- Where a piece of a kept sum is cut off.
-use Rattle.std.proofs.Common.{◌≡◌, ℕ, zero, suc, ◌+◌, ◌-◌, ◌*◌, ◌^◌, ◌<◌, ◌≤◌, min, inl, inr, ℤ, pos, ◌+ℤ◌, List, length, get_or, refl, sym, ap, subst, ◌∙◌, arith}
+use Rattle.std.proofs.Common.{◌≡◌, ℕ, ◌+◌, ◌-◌, ◌^◌, ◌<◌, ◌≤◌, inl, inr, List, length, sym, ap, subst, arith}
 use Rattle.std.specs.Prelude.{◌⊎◌}
 use Rattle.std.proofs.lemmas.Bool.{cases_lt, cases_eq}
 use Rattle.semantics.specs.Term.{Term}
@@ -7,10 +7,10 @@ use Rattle.descent.specs.declared.cells.Cells.{Cells}
 use Rattle.descent.specs.declared.kept.KeptSum.{KeptSum}
 use Rattle.descent.specs.declared.readers.Reader.{Reader}
 use Rattle.descent.specs.Cells.{begin_of, cells_in, offset_of, AreCells}
-use Rattle.descent.specs.Readers.{reader_at, AreAligned}
+use Rattle.descent.specs.Readers.{AreAligned}
 use Rattle.descent.specs.Rows.{Cut}
 use Rattle.descent.specs.Said.{AreRead, SomeComes}
-use Rattle.descent.specs.Settled.{lens_of, CanSay, IsShaped, IsTrimmed}
+use Rattle.descent.specs.Settled.{lens_of, CanSay, IsShaped}
 use Rattle.descent.proofs.CellLaws.{behind-first, offsets}
 
 -- a piece lies in the sum

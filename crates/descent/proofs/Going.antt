@@ -1,5 +1,5 @@
 -- Going over the series of a cut in order.
-use Rattle.std.proofs.Common.{◌≡◌, ℕ, zero, suc, ◌+◌, ◌<◌, List, [], ◌∷◌, ◌++◌, length, take, get_or, sym, ap, arith}
+use Rattle.std.proofs.Common.{◌≡◌, ℕ, zero, suc, ◌<◌, List, [], ◌∷◌, ◌++◌, length, take, get_or, sym, ap, arith}
 use Rattle.descent.specs.Held.{Held, row_in, shown}
 use Rattle.descent.specs.Rows.{Track, with_rows}
 

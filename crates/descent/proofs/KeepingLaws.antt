@@ -1,9 +1,9 @@
 -- What is kept of all sums of a query.
-use Rattle.std.proofs.Common.{◌≡◌, ℕ, zero, suc, ◌+◌, ◌<◌, ◌≤◌, ◌^◌, max, inl, inr, Option, Some, None, List, [], ◌∷◌, ◌++◌, length, map, take, get_or, set, refl, sym, ap, ap₂, subst, ◌∙◌, arith, length-append, unsigned_abs}
+use Rattle.std.proofs.Common.{◌≡◌, ℕ, zero, suc, ◌+◌, ◌<◌, ◌≤◌, ◌^◌, Option, Some, None, List, [], ◌∷◌, ◌++◌, length, map, take, get_or, set, refl, sym, ap, ap₂, subst, ◌∙◌, arith, unsigned_abs}
 use Rattle.std.specs.List.{All}
 use Rattle.std.proofs.lemmas.List.{map-append, length-map, take_all}
-use Rattle.semantics.specs.Admission.{SumTerm, sums_of, query_names, series_names}
-use Rattle.semantics.specs.Admitted.{IsAdmitted, IsAdmittedSum, IsKnown}
+use Rattle.semantics.specs.Admission.{SumTerm, sums_of}
+use Rattle.semantics.specs.Admitted.{IsAdmitted, IsAdmittedSum}
 use Rattle.semantics.specs.Limits.{most_names_in, query_depth, IsNearQuery, IsWithinLimits}
 use Rattle.semantics.specs.Plain.{IsPlain}
 use Rattle.semantics.specs.Readings.{positions_in}

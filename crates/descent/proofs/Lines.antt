@@ -1,5 +1,5 @@
 -- The lines of a query are those of its sums, in order.
-use Rattle.std.proofs.Common.{◌≡◌, ℕ, ◌*◌, inl, inr, List, [], ◌∷◌, ◌++◌, take, drop, length, refl, sym, ap, subst, ◌∙◌, arith}
+use Rattle.std.proofs.Common.{◌≡◌, ℕ, ◌*◌, inl, inr, List, [], ◌∷◌, ◌++◌, refl, sym, subst}
 use Rattle.std.specs.List.{All}
 use Rattle.std.proofs.lemmas.List.Elements.{All-nil, All-cons, All-head, All-tail}
 use Rattle.semantics.specs.Admission.{SumTerm, sums_of}
@@ -16,7 +16,7 @@ use Rattle.error_prop.specs.QueryOver.{sums_over}
 use Rattle.error_prop.proofs.QueryOverLaws.{length-sums_over}
 use Rattle.descent.specs.Rows.{Cut, entries}
 use Rattle.descent.specs.Sums.{sum_in}
-use Rattle.descent.specs.Choice.{Has, Line, side_by_side, says_weight, weight_of}
+use Rattle.descent.specs.Choice.{Has, Line, side_by_side, weight_of}
 use Rattle.descent.proofs.Exact.{IsNothing}
 
 left_over : (es : List Entry) (p q : QueryTerm) → IsPlain p → left_sums p (sums_over es p ++ sums_over es q) ≡ sums_over es p

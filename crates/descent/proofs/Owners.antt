@@ -75,6 +75,12 @@ owner-alone o p b xs r q l er eq of ou pf pu = elim (cases_eq o p) [
   ]
 ]
 
+-- a place where something stands is there
+pub some-within : {T : Type 0} → (xs : List (Option T)) (i : ℕ) (x : T) → get_or xs i None ≡ Some x → i < length xs
+some-within [] i x e = let n : ⊥ = cc in absurd n
+some-within (y ∷ xs) zero x e = omega arith
+some-within (y ∷ xs) (suc i) x e = let h = some-within xs i x e in omega arith
+
 -- ---- steps
 
 -- blocks that went over

@@ -1,17 +1,17 @@
 -- The piece at a cell is cut off, said, and put right.
-use Rattle.std.proofs.Common.{◌≡◌, ℕ, ◌+◌, ◌-◌, ◌<◌, ◌≤◌, inl, inr, ℤ, pos, List, length, get_or, set, refl, sym, ap, subst, ◌∙◌, arith}
+use Rattle.std.proofs.Common.{◌≡◌, ℕ, ◌+◌, ◌-◌, ◌<◌, ◌≤◌, inl, inr, ℤ, pos, List, length, get_or, set, sym, ap, subst, ◌∙◌, arith}
 use Rattle.std.specs.Prelude.{◌⊎◌}
 use Rattle.semantics.specs.Measures.{names_in}
 use Rattle.semantics.specs.Term.{Term}
 use Rattle.tops.specs.Tops.{number}
 use Rattle.descent.specs.declared.kept.KeptSum.{KeptSum}
-use Rattle.descent.specs.Cells.{cells_in, offset_of}
+use Rattle.descent.specs.Cells.{offset_of}
 use Rattle.descent.specs.Kept.{IsSaid}
 use Rattle.descent.specs.KeptSums.{numbers_at}
 use Rattle.descent.specs.Rows.{Cut}
 use Rattle.descent.specs.Said.{AllStay, AreRead}
 use Rattle.descent.specs.Settled.{lens_of, CanBeCharged, CanSay, HasOtherWeights, IsSameAt, IsSameSum, IsShaped, IsTrimmed}
-use Rattle.descent.proofs.CutSteps.{are-read, piece-in, LiesIn}
+use Rattle.descent.proofs.CutSteps.{are-read, piece-in}
 use Rattle.descent.proofs.Settling.{said-right, same-at, shaped-estimate, shaped-trimmed, shaped-weights, OtherAt}
 use Rattle.descent.proofs.SettleSteps.{IsSettledAt}
 use Rattle.descent.proofs.Taking.{say-same}

@@ -1,6 +1,6 @@
 -- A weight is put, and the row that is read there is charged anew.
-use Rattle.std.proofs.Common.{◌≡◌, ℕ, ◌+◌, ◌/◌, ◌^◌, ◌<◌, ◌≤◌, true, inl, inr, ℤ, pos, ◌+ℤ◌, None, List, [], length, map, get_or, set, get_or-set_same, get_or-set_other, length-set, refl, sym, ap, subst, ◌∙◌, arith}
-use Rattle.std.specs.Prelude.{◌≤ℤ◌, is_some, unsigned_abs}
+use Rattle.std.proofs.Common.{◌≡◌, ℕ, ◌+◌, ◌/◌, ◌^◌, ◌<◌, ◌≤◌, true, inl, inr, ℤ, pos, ◌+ℤ◌, None, List, [], length, map, get_or, set, get_or-set_same, get_or-set_other, length-set, sym, ap, subst, ◌∙◌, arith}
+use Rattle.std.specs.Prelude.{◌≤ℤ◌}
 use Rattle.std.proofs.lemmas.Bool.{cases_eq}
 use Rattle.std.proofs.lemmas.Int.{ints}
 use Rattle.std.proofs.lemmas.List.{get_or_default}
@@ -11,7 +11,7 @@ use Rattle.descent.specs.declared.readers.Reader.{Reader}
 use Rattle.descent.specs.Cells.{cells_in, offset_of}
 use Rattle.descent.specs.Choice.{Has}
 use Rattle.descent.specs.Held.{Held, row_in, shown}
-use Rattle.descent.specs.KeptSums.{band_of, charge_in, numbers_at, place_of, AreCharged}
+use Rattle.descent.specs.KeptSums.{band_of, charge_in, numbers_at, AreCharged}
 use Rattle.descent.specs.Readers.{no_reader, reader_at, track_at}
 use Rattle.descent.specs.Rows.{Row, Track, Cut, with_rows}
 use Rattle.descent.specs.Settled.{CanBeCharged, CanBeRead, IsInside}

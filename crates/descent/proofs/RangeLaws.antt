@@ -1,5 +1,5 @@
 -- The range of a sum, by what the code knows of the lengths of the series.
-use Rattle.std.proofs.Common.{◌≡◌, ℕ, List, refl, sym, ap, ◌∙◌}
+use Rattle.std.proofs.Common.{◌≡◌, ℕ, List, refl, ap, ◌∙◌}
 use Rattle.std.specs.Prelude.{Option, Some, None}
 use Rattle.std.specs.List.{All}
 use Rattle.semantics.specs.Admission.{count_at, Fact, SumTerm}

@@ -1,5 +1,5 @@
 -- The greatest weight at the cells that are read in a segment.
-use Rattle.std.proofs.Common.{◌≡◌, ℕ, zero, suc, ◌+◌, ◌-◌, ◌<◌, ◌≤◌, max, cond, false, true, ℤ, pos, ◌+ℤ◌, List, refl, sym, ap, ◌∙◌, arith}
+use Rattle.std.proofs.Common.{◌≡◌, ℕ, zero, suc, ◌+◌, ◌-◌, ◌<◌, max, cond, ℤ, List, refl, ap, ◌∙◌, arith}
 use Rattle.semantics.specs.Sums.{most_below}
 use Rattle.segment.specs.declared.segments.Seg.{Seg}
 use Rattle.tops.specs.Tops.{number, number_from, most_in}

@@ -17,7 +17,7 @@ use Rattle.descent.specs.Descents.{Nodes, row_of, cut_of, root_track, roots_from
 use Rattle.descent.specs.Held.{Held, row_in, shown, head_of, heads, IsTrackOf, StandsFor, AreRising}
 use Rattle.descent.specs.Known.{greatest_known, root_head, heads_from, AreRootsKnown, AreApart}
 use Rattle.descent.specs.Sound.{name_of}
-use Rattle.descent.specs.Laid.{IsWholeRoot, IsRootOf, root_table}
+use Rattle.descent.specs.Laid.{IsRootOf, root_table}
 
 pub whole-root : {I : Type 0} → (len : ℕ) (o : Option (I × Seg)) → (IsNone o ↔ (len ≡ 0)) → IfSome o (λ r. r.1.start ≡ 0) → IfSome o (λ r. r.1.len ≡ len) → IfSome o (λ r. IsSane r.1 r.1.d) → IsRootOf len o
 whole-root len None n s l sane = n.0 refl

@@ -2,18 +2,16 @@
 use Rattle.std.proofs.Common.{◌≡◌, ℕ, zero, suc, ◌+◌, ◌*◌, ◌/◌, ◌^◌, ◌<◌, ◌≤◌, true, inl, inr, ℤ, pos, negsuc, List, [], ◌∷◌, length, map, refl, sym, ap, subst, ◌∙◌, arith}
 use Rattle.std.specs.Prelude.{◌&&◌, nat_le, nat_lt}
 use Rattle.std.specs.List.{All}
-use Rattle.std.proofs.lemmas.Bool.{cases_lt, cases_eq}
+use Rattle.std.proofs.lemmas.Bool.{cases_lt}
 use Rattle.std.proofs.lemmas.Bool.Decides.{nat_tests}
-use Rattle.std.proofs.lemmas.Int.{ints}
 use Rattle.std.proofs.lemmas.List.Elements.{All-head, All-tail}
-use Rattle.semantics.specs.Sums.{sum_below}
 use Rattle.segment.specs.declared.segments.Seg.{Seg}
 use Rattle.bounds.specs.Segments.{covers, TouchFrom}
 use Rattle.descent.specs.Choice.{Has}
 use Rattle.descent.specs.KeptSums.{band_of, place_of}
 use Rattle.descent.specs.Laid.{blocks}
 use Rattle.descent.specs.Readers.{track_at}
-use Rattle.descent.specs.Rows.{Row, Track, Cut}
+use Rattle.descent.specs.Rows.{Row, Cut}
 use Rattle.descent.specs.Sound.{seg_of, IsSound, IsSoundRow, IsSoundTrack}
 
 -- ---- covered positions

@@ -1,5 +1,5 @@
 -- Pieces of a kept sum are put right one after the other.
-use Rattle.std.proofs.Common.{◌≡◌, ℕ, ◌+◌, ◌-◌, ◌<◌, ◌≤◌, inl, inr, ℤ, pos, ◌+ℤ◌, List, get_or, refl, sym, ap, subst, ◌∙◌, arith}
+use Rattle.std.proofs.Common.{◌≡◌, ℕ, ◌+◌, ◌-◌, ◌<◌, ◌≤◌, inl, inr, pos, ◌+ℤ◌, refl, sym, ap, subst, ◌∙◌, arith}
 use Rattle.std.specs.Prelude.{◌⊎◌}
 use Rattle.std.proofs.lemmas.Bool.{cases_lt, cases_eq}
 use Rattle.semantics.specs.Readings.{reading}
@@ -8,10 +8,10 @@ use Rattle.bounds.specs.Segments.{covers}
 use Rattle.tops.specs.Tops.{number}
 use Rattle.descent.specs.declared.kept.KeptSum.{KeptSum}
 use Rattle.descent.specs.Cells.{cells_in, offset_of}
-use Rattle.descent.specs.Kept.{AreTiled, IsJoint, IsSaid}
+use Rattle.descent.specs.Kept.{IsSaid}
 use Rattle.descent.specs.KeptSums.{numbers_at}
 use Rattle.descent.specs.Readers.{reader_at}
-use Rattle.descent.specs.Rows.{Row, Cut}
+use Rattle.descent.specs.Rows.{Cut}
 use Rattle.descent.specs.Settled.{lens_of, IsJointOf, IsRightAt, IsSameAt, IsSameSum, IsSettledTo, IsShaped}
 use Rattle.descent.proofs.Tiles.{joint-behind, none-inside}
 

@@ -1,7 +1,7 @@
 -- A piece of a kept sum is cut off and put right; all else stays.
-use Rattle.std.proofs.Common.{◌≡◌, ℕ, zero, suc, ◌+◌, ◌-◌, ◌*◌, ◌/◌, ◌^◌, ◌<◌, ◌≤◌, cond, true, false, inl, inr, ℤ, pos, negsuc, ◌+ℤ◌, List, [], ◌∷◌, ◌++◌, length, take, get_or, set, get_or-set_same, get_or-set_other, length-set, refl, sym, ap, ap₂, subst, ◌∙◌, arith}
-use Rattle.std.specs.Prelude.{◌⊎◌, ◌≤ℤ◌, ◌&&◌, nat_le, nat_lt}
-use Rattle.std.proofs.lemmas.Bool.{cases_lt, cases_eq}
+use Rattle.std.proofs.Common.{◌≡◌, ℕ, zero, suc, ◌+◌, ◌-◌, ◌<◌, ◌≤◌, true, false, inl, inr, ℤ, pos, negsuc, ◌+ℤ◌, List, [], ◌∷◌, ◌++◌, length, take, get_or, set, get_or-set_same, get_or-set_other, length-set, refl, sym, ap, subst, ◌∙◌, arith}
+use Rattle.std.specs.Prelude.{◌≤ℤ◌, ◌&&◌, nat_le, nat_lt}
+use Rattle.std.proofs.lemmas.Bool.{cases_lt}
 use Rattle.std.proofs.lemmas.Bool.Decides.{nat_tests}
 use Rattle.std.proofs.lemmas.Int.{ints}
 use Rattle.semantics.specs.Measures.{names_in}
@@ -12,15 +12,14 @@ use Rattle.bounds.specs.Segments.{covers}
 use Rattle.tops.specs.Tops.{number}
 use Rattle.descent.specs.declared.cells.Cells.{Cells}
 use Rattle.descent.specs.declared.kept.KeptSum.{KeptSum}
-use Rattle.descent.specs.declared.readers.Reader.{Reader}
-use Rattle.descent.specs.Cells.{cells_in, offset_of, AreCells, IsBorder}
-use Rattle.descent.specs.Kept.{AreTiled, IsBlank, IsJoint, IsKeptAt, IsSaid}
-use Rattle.descent.specs.KeptSums.{kept_of, numbers_at, AreCharged}
-use Rattle.descent.specs.Readers.{reader_at, AreAligned, AreReadersOf}
-use Rattle.descent.specs.Rows.{Row, Cut}
+use Rattle.descent.specs.Cells.{cells_in, offset_of, IsBorder}
+use Rattle.descent.specs.Kept.{IsSaid}
+use Rattle.descent.specs.KeptSums.{numbers_at}
+use Rattle.descent.specs.Readers.{reader_at}
+use Rattle.descent.specs.Rows.{Cut}
 use Rattle.descent.specs.Said.{AllStay}
-use Rattle.descent.specs.Settled.{lens_of, AreReadIn, CanBeCharged, CanBeRead, HasOtherWeights, IsJointOf, IsRightAt, IsSameAt, IsSameSum, IsSettledTo, IsShaped, IsTrimmed}
-use Rattle.descent.proofs.Tiles.{joint-behind, none-inside, trimmed-stays, trimmed-tiled}
+use Rattle.descent.specs.Settled.{lens_of, AreReadIn, CanBeCharged, HasOtherWeights, IsRightAt, IsSameAt, IsShaped, IsTrimmed}
+use Rattle.descent.proofs.Tiles.{trimmed-stays, trimmed-tiled}
 
 -- ---- the cells that are read in a segment
 

@@ -1,29 +1,28 @@
 -- The segments of a sound cut make a frame.
-use Rattle.std.proofs.Common.{◌≡◌, ℕ, zero, suc, ◌+◌, ◌-◌, ◌*◌, ◌^◌, ◌<◌, ◌≤◌, max, cond, Bool, true, false, inl, inr, ℤ, pos, ◌*ℤ◌, unsigned_abs, Option, Some, None, List, [], ◌∷◌, ◌++◌, length, map, refl, sym, ap, ap₂, subst, ◌∙◌, arith, length-append}
+use Rattle.std.proofs.Common.{◌≡◌, ℕ, suc, ◌+◌, ◌*◌, ◌^◌, ◌<◌, ◌≤◌, false, inl, inr, ℤ, pos, unsigned_abs, Option, Some, None, List, [], ◌∷◌, ◌++◌, length, map, refl, sym, ap, subst, ◌∙◌, arith, length-append}
 use Rattle.std.specs.List.{All, AllByRecursion, sum_by}
-use Rattle.std.specs.Option.{option_map_or}
 use Rattle.std.proofs.lemmas.Bool.{cases_Bool}
-use Rattle.std.proofs.lemmas.Int.{ints, unsigned_abs-mul}
+use Rattle.std.proofs.lemmas.Int.{unsigned_abs-mul}
 use Rattle.std.proofs.lemmas.List.Sums.{sum_by-cons}
 use Rattle.std.proofs.lemmas.List.Elements.{All-head, All-tail}
-use Rattle.semantics.specs.Admission.{Fact, fact_at, count_at, greatest_at}
+use Rattle.semantics.specs.Admission.{Fact, count_at}
 use Rattle.semantics.specs.Admitted.{IsAdmitted}
 use Rattle.semantics.specs.Names.{same_name}
 use Rattle.semantics.specs.Readings.{reading}
 use Rattle.semantics.specs.Term.{QueryTerm}
 use Rattle.segment.specs.declared.segments.Seg.{Seg}
 use Rattle.segment.specs.Measure.{unit, unit_seg, IsSane}
-use Rattle.bounds.specs.Cut.{Entry, segs_of, IsNew, AreDistinct}
+use Rattle.bounds.specs.Cut.{IsNew, AreDistinct}
 use Rattle.bounds.specs.Segments.{len_of, IsSaneFor, AreSaneFor, TouchFrom}
-use Rattle.error_prop.specs.Entries.{end_from, AllTouch, IsFrame}
-use Rattle.error_prop.specs.Places.{end_of_name, flat, IsShort}
-use Rattle.error_prop.specs.QueryOver.{IsAsKnown, AdmitsQuery}
+use Rattle.error_prop.specs.Entries.{end_from, AllTouch}
+use Rattle.error_prop.specs.Places.{end_of_name, flat}
+use Rattle.error_prop.specs.QueryOver.{IsAsKnown}
 use Rattle.error_prop.proofs.FrameLaws.{touch-end}
 use Rattle.std.proofs.lemmas.List.{length-map}
-use Rattle.descent.specs.Rows.{Row, Track, Cut, units, segs_given, segs_of_row, segs_of_rows, entry_of, entries, with_rows}
+use Rattle.descent.specs.Rows.{Row, Track, Cut, units, segs_given, segs_of_row, segs_of_rows, entries, with_rows}
 use Rattle.descent.specs.Held.{Held, row_in, shown}
 use Rattle.descent.specs.Known.{fact_of, facts_in, AreApart}
-use Rattle.descent.specs.Sound.{AreSmall, IsSoundRow, seg_of, IsSoundTrack, name_of, IsSound, IsFrameFor, CutsAreFrames}
+use Rattle.descent.specs.Sound.{AreSmall, IsSoundRow, seg_of, IsSoundTrack, name_of, IsFrameFor, CutsAreFrames}
 use Rattle.descent.proofs.Admits.{each-sum}
 
 -- ---- the segments of rows

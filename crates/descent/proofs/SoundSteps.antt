@@ -1,15 +1,15 @@
 -- Steps keep the rows of a series sound.
-use Rattle.std.proofs.Common.{◌≡◌, ℕ, zero, suc, ◌+◌, ◌*◌, ◌<◌, ◌≤◌, cond, Bool, true, false, inl, inr, ℤ, pos, unsigned_abs, Option, Some, None, List, [], ◌∷◌, ◌++◌, length, map, take, get_or, refl, sym, ap, ap₂, subst, ◌∙◌, arith, length-take-le}
-use Rattle.std.specs.Prelude.{IfSome, ◌^◌, is_some, ◌&&◌, not, ◌==◌}
+use Rattle.std.proofs.Common.{◌≡◌, ℕ, zero, suc, ◌+◌, ◌<◌, ◌≤◌, true, inl, inr, ℤ, pos, unsigned_abs, Option, Some, None, List, [], ◌∷◌, ◌++◌, length, map, take, refl, sym, ap, subst, ◌∙◌, arith, length-take-le}
+use Rattle.std.specs.Prelude.{IfSome, ◌^◌, is_some}
 use Rattle.std.specs.List.{All}
 use Rattle.std.specs.Option.{option_map}
 use Rattle.std.proofs.lemmas.Bool.{cases_Bool, cases_lt}
-use Rattle.std.proofs.lemmas.List.Elements.{All-nil, All-cons, All-head, All-tail, All-append}
+use Rattle.std.proofs.lemmas.List.Elements.{All-nil, All-cons, All-head, All-tail}
 use Rattle.semantics.specs.Readings.{reading}
 use Rattle.segment.specs.declared.segments.Seg.{Seg}
 use Rattle.segment.specs.Measure.{IsSane}
 use Rattle.bounds.specs.Segments.{TouchFrom}
-use Rattle.descent.specs.Rows.{Row, Track, units, segs_given, segs_of_row, with_rows}
+use Rattle.descent.specs.Rows.{Track, units, segs_given, segs_of_row, with_rows}
 use Rattle.descent.specs.Choice.{Has}
 use Rattle.descent.specs.Held.{Held, row_in, is_closed_at}
 use Rattle.descent.specs.declared.tables.Row.{Row as TableRow}

@@ -1,11 +1,11 @@
 -- Where a row that gave way stood.
-use Rattle.std.proofs.Common.{◌≡◌, ℕ, ◌+◌, ◌/◌, ◌^◌, ◌<◌, ◌≤◌, inl, inr, List, [], ◌∷◌, ◌++◌, length, map, get_or, refl, sym, ap, subst, ◌∙◌, arith}
+use Rattle.std.proofs.Common.{◌≡◌, ℕ, ◌+◌, ◌/◌, ◌^◌, ◌<◌, ◌≤◌, inl, inr, List, [], ◌∷◌, ◌++◌, length, map, get_or, refl, sym, ap, subst, arith}
 use Rattle.segment.specs.declared.segments.Seg.{Seg}
 use Rattle.descent.specs.Changed.{GaveWay}
 use Rattle.descent.specs.Held.{Held, row_in, shown}
 use Rattle.descent.specs.KeptSums.{band_of}
 use Rattle.descent.specs.Readers.{track_at}
-use Rattle.descent.specs.Rows.{Row, Track, Cut, with_rows}
+use Rattle.descent.specs.Rows.{Row, Track, Cut}
 use Rattle.descent.specs.Sound.{IsSound}
 use Rattle.descent.specs.Standing.{IsClosedOver, IsOpenedOver}
 use Rattle.descent.proofs.Anew.{has-changed, shown-at, IsSplit}

@@ -10,11 +10,11 @@ use Rattle.bounds.specs.Segments.{covers}
 use Rattle.tops.specs.Tops.{number}
 use Rattle.descent.specs.declared.kept.KeptSum.{KeptSum}
 use Rattle.descent.specs.Cells.{cells_in, offset_of, AreCells}
-use Rattle.descent.specs.Kept.{kept_in, AreTiled, IsBlank}
-use Rattle.descent.specs.KeptSums.{band_of, charge_in, kept_of, numbers_at, part_of, place_of, row_charge, AreCharged}
+use Rattle.descent.specs.Kept.{kept_in, AreTiled}
+use Rattle.descent.specs.KeptSums.{band_of, charge_in, numbers_at, part_of, place_of, row_charge, AreCharged}
 use Rattle.descent.specs.Readers.{reader_at, AreAligned, AreReadersOf}
 use Rattle.descent.specs.Rows.{Row, Cut}
-use Rattle.descent.specs.Settled.{lens_of, CanBeCharged, CanBeRead, IsShaped}
+use Rattle.descent.specs.Settled.{IsShaped}
 use Rattle.descent.specs.Sound.{IsSound}
 use Rattle.descent.proofs.ReadRuns.{most-none}
 use Rattle.descent.proofs.RowLaws.{AtBorders}

@@ -1,5 +1,5 @@
 -- What is built of a sum.
-use Rattle.std.proofs.Common.{◌≡◌, ℕ, ◌+◌, ◌^◌, ◌<◌, ◌≤◌, inl, inr, ℤ, pos, ◌+ℤ◌, List, length, refl, sym, ap, ◌∙◌, arith}
+use Rattle.std.proofs.Common.{◌≡◌, ℕ, ◌^◌, ◌<◌, ◌≤◌, inl, inr, ℤ, pos, ◌+ℤ◌, List, length, ap, ◌∙◌, arith}
 use Rattle.std.specs.Prelude.{◌≤ℤ◌}
 use Rattle.std.proofs.lemmas.Bool.{cases_lt}
 use Rattle.std.proofs.lemmas.Int.{ints}
@@ -12,7 +12,7 @@ use Rattle.descent.specs.Cells.{cells_in}
 use Rattle.descent.specs.KeptSums.{IsKeptSum}
 use Rattle.descent.specs.Readers.{reader_at, track_at, AreReadersOf}
 use Rattle.descent.specs.Rows.{Cut}
-use Rattle.descent.specs.Settled.{lens_of, IsOfSum, IsSettled}
+use Rattle.descent.specs.Settled.{IsOfSum, IsSettled}
 use Rattle.descent.specs.Sound.{IsSound}
 use Rattle.descent.proofs.RowLaws.{sound-track}
 use Rattle.descent.proofs.Taking.{kept-of-shape, readers-inside}

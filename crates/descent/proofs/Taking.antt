@@ -1,5 +1,5 @@
 -- A row gave way: what was read of it is put right, one occurrence after the other.
-use Rattle.std.proofs.Common.{◌≡◌, ℕ, zero, suc, ◌+◌, ◌-◌, ◌^◌, ◌<◌, ◌≤◌, true, false, inl, inr, ℤ, pos, ◌+ℤ◌, List, [], ◌∷◌, ◌++◌, length, get_or, refl, sym, ap, subst, ◌∙◌, arith}
+use Rattle.std.proofs.Common.{◌≡◌, ℕ, ◌+◌, ◌-◌, ◌^◌, ◌<◌, ◌≤◌, true, false, inl, inr, ℤ, pos, ◌+ℤ◌, List, [], ◌∷◌, ◌++◌, length, refl, sym, ap, subst, ◌∙◌, arith}
 use Rattle.std.specs.Prelude.{◌⊎◌, ◌≤ℤ◌, unsigned_abs}
 use Rattle.std.proofs.lemmas.Bool.{cases_lt, cases_eq}
 use Rattle.std.proofs.lemmas.Int.{ints}
@@ -12,15 +12,15 @@ use Rattle.bounds.specs.Segments.{covers}
 use Rattle.descent.specs.declared.cells.Cells.{Cells}
 use Rattle.descent.specs.declared.kept.KeptSum.{KeptSum}
 use Rattle.descent.specs.declared.readers.Reader.{Reader}
+use Rattle.descent.specs.Again.{ComesAgain}
 use Rattle.descent.specs.Cells.{cells_in, offset_of, AreCells}
-use Rattle.descent.specs.Changed.{CanKeep, HasChanged}
 use Rattle.descent.specs.Charges.{AreRecharged}
 use Rattle.descent.specs.Choice.{Has}
-use Rattle.descent.specs.Kept.{AreTiled, IsJoint, IsKeptAt}
-use Rattle.descent.specs.KeptSums.{kept_of, nowhere, IsKeptBut, IsKeptSum}
+use Rattle.descent.specs.Kept.{AreTiled}
+use Rattle.descent.specs.KeptSums.{IsKeptBut, IsKeptSum}
 use Rattle.descent.specs.Readers.{reader_at, rows_read, track_at, AreReadersOf}
 use Rattle.descent.specs.Rows.{Row, Cut}
-use Rattle.descent.specs.Settled.{lens_of, AreJointsFor, AreReadIn, CanBeCharged, CanBeRead, CanSay, IsInside, IsJointOf, IsKeptBefore, IsOfSum, IsRightAt, IsSameAt, IsSameSum, IsSettled, IsSettledTo, IsShaped}
+use Rattle.descent.specs.Settled.{lens_of, AreJointsFor, AreReadIn, CanSay, IsInside, IsJointOf, IsKeptBefore, IsOfSum, IsRightAt, IsSameSum, IsSettled, IsShaped}
 use Rattle.descent.specs.Sound.{IsSound}
 use Rattle.descent.specs.Sums.{count_of, first_of, range_of}
 use Rattle.descent.proofs.CellLaws.{offsets}
@@ -193,6 +193,29 @@ taken-other now t i row o old new is ne = record {
     | inr right ↦ inr right
     | inl left ↦ elim (cases_eq left.p o) [
       | inl e ↦ absurd (ne (subst (λ q. (reader_at new.readers.items q).track ≡ i) e left.track))
+      | inr other ↦ let f = left.from in inl (record { p = left.p; from = omega arith; below = left.below; track = left.track; covered = left.covered })
+    ]
+  ];
+}
+
+-- an occurrence that reads the same as a later one
+pub taken-later : (now : Cut) (t : Term) (i : ℕ) (row : Row) (o : ℕ) (old new : KeptSum) → IsTakenTo now t i row o old new → ComesAgain new.readers.items o → IsTakenTo now t i row (o + 1) old new
+taken-later now t i row o old new is again = record {
+  shaped = is.shaped;
+  say = is.say;
+  same = is.same;
+  joints = is.joints;
+  pieces = λ c some. elim (is.pieces c some) [
+    | inr right ↦ inr right
+    | inl left ↦ elim (cases_eq left.p o) [
+      | inl e ↦ let b = again.behind in inl (record {
+        p = again.later;
+        from = omega arith;
+        below = again.below;
+        track = ap (λ (m : Reader). m.track) again.same ∙ subst (λ q. (reader_at new.readers.items q).track ≡ i) e left.track;
+        covered = ap (λ (m : Reader). covers row.seg (m.at +ℤ pos (offset_of new.cells c))) again.same
+        ∙ subst (λ q. covers row.seg ((reader_at new.readers.items q).at +ℤ pos (offset_of new.cells c)) ≡ true) e left.covered;
+      })
       | inr other ↦ let f = left.from in inl (record { p = left.p; from = omega arith; below = left.below; track = left.track; covered = left.covered })
     ]
   ];

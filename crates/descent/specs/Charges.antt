@@ -1,7 +1,6 @@
 -- Charges at the places of their rows.
-use Rattle.std.specs.Prelude.{◌≡◌, ℕ, ◌+◌, ◌<◌, ◌≤◌, Option, Some, None, List, [], ◌∷◌, ◌++◌, length, map}
-use Rattle.semantics.specs.Sums.{sum_below}
-use Rattle.tops.specs.Tops.{number, IsTop}
+use Rattle.std.specs.Prelude.{◌≡◌, ℕ, ◌+◌, ◌<◌, ◌≤◌, Some, None, List, [], ◌∷◌, ◌++◌, length, map}
+use Rattle.tops.specs.Tops.{number}
 use Rattle.descent.specs.declared.kept.KeptSum.{KeptSum}
 use Rattle.descent.specs.Choice.{heaviest, Has}
 use Rattle.descent.specs.KeptSums.{place_of, row_charge}

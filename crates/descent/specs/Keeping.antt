@@ -1,5 +1,5 @@
 -- What is kept of all sums of a query, from step to step.
-use Rattle.std.specs.Prelude.{◌≡◌, ℕ, zero, suc, List, [], ◌∷◌}
+use Rattle.std.specs.Prelude.{ℕ, zero, suc, List, [], ◌∷◌}
 use Rattle.semantics.specs.Admission.{SumTerm}
 use Rattle.descent.specs.declared.cuts.State.{State}
 use Rattle.descent.specs.declared.cuts.State.TheVariants.{Old, Noted, Current}

@@ -8,7 +8,7 @@ use Rattle.semantics.specs.Measures.{names_in}
 use Rattle.semantics.specs.Sums.{total_below, most_below}
 use Rattle.semantics.specs.Term.{Term}
 use Rattle.segment.specs.declared.segments.Seg.{Seg}
-use Rattle.bounds.specs.Cut.{Entry, segs_of, AreDistinct, weight_at, charge_by, greatest_weight, error_by, estimate_from, sum_estimate, sum_error, occurrence_at}
+use Rattle.bounds.specs.Cut.{segs_of, AreDistinct, weight_at, charge_by, greatest_weight, error_by, estimate_from, sum_estimate, sum_error}
 use Rattle.bounds.specs.Segments.{covers}
 use Rattle.descent.specs.declared.readers.Reader.{Reader}
 use Rattle.descent.specs.Choice.{Has}

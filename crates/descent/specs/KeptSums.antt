@@ -1,5 +1,5 @@
 -- What a cut keeps of a sum, by the fields of the code.
-use Rattle.std.specs.Prelude.{◌≡◌, ℕ, ◌+◌, ◌*◌, ◌/◌, ◌%◌, ◌^◌, ◌<◌, ◌≤◌, ◌==◌, ◌⊎◌, is_some, if◌then◌else◌, Option, Some, None, ℤ, pos, List, [], ◌∷◌, length, get_or}
+use Rattle.std.specs.Prelude.{◌≡◌, ℕ, ◌+◌, ◌*◌, ◌/◌, ◌%◌, ◌^◌, ◌<◌, ◌≤◌, ◌==◌, ◌⊎◌, is_some, if◌then◌else◌, List, [], ◌∷◌, length, get_or}
 use Rattle.semantics.specs.Admission.{SumTerm}
 use Rattle.semantics.specs.Readings.{reading}
 use Rattle.semantics.specs.Sums.{sum_below}
@@ -8,10 +8,10 @@ use Rattle.tops.specs.Tops.{number}
 use Rattle.descent.specs.declared.kept.KeptSum.{KeptSum}
 use Rattle.descent.specs.Cells.{AreCells, cells_in, offset_of}
 use Rattle.descent.specs.Choice.{Has}
-use Rattle.descent.specs.Kept.{Kept, IsBlank, IsKeptAt, AreTiled, kept_in, kept_weight}
+use Rattle.descent.specs.Kept.{Kept, IsBlank, IsKeptAt, AreTiled, kept_weight}
 use Rattle.descent.specs.Laid.{blocks}
 use Rattle.descent.specs.Readers.{reader_at, track_at, AreAligned, AreReadersOf}
-use Rattle.descent.specs.Rows.{Row, Track, Cut}
+use Rattle.descent.specs.Rows.{Row, Cut}
 use Rattle.descent.specs.Sums.{count_of, first_of}
 
 abbrev pub numbers_at : List (List ℕ) → ℕ → List ℕ

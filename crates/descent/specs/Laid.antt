@@ -41,7 +41,7 @@ view_of t = record {
   name = t.name;
   len = t.len;
   greatest = t.greatest;
-  rows = map held (present t.places.items);
+  rows = map held (present t.places);
 }
 
 -- the row that covers a block, by the place where it stands
@@ -56,9 +56,9 @@ pub record AreOwned {I : Type 0} (places : List (Option (Row I))) (owners : List
   pub each : (block : ℕ) → block < length places → IsOwnedBy places block (slice_index owners block)
 
 pub record IsTable {I : Type 0} (t : Inside I) : Type 0 where
-  pub laid : IsLaid 0 0 t.places.items
-  pub few : length t.places.items ≤ 2 ^ 16
-  pub owned : AreOwned t.places.items t.owners.items
+  pub laid : IsLaid 0 0 t.places
+  pub few : length t.places ≤ 2 ^ 16
+  pub owned : AreOwned t.places t.owners.items
   pub sound : IsSoundTrack (with_rows row_in (view_of t))
 
 -- the rows, where the closed one from a position gives way to others

@@ -1,3 +1,4 @@
+pub mod Again
 pub mod Rows
 pub mod Sums
 pub mod Choice

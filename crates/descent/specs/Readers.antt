@@ -1,5 +1,5 @@
 -- The occurrences of a sum, as the code has them.
-use Rattle.std.specs.Prelude.{◌≡◌, ◌⊎◌, ℕ, ◌+◌, ◌*◌, ◌%◌, ◌<◌, ◌≤◌, ℤ, pos, ◌+ℤ◌, ◌≤ℤ◌, suc, if◌then◌else◌, List, [], ◌∷◌, length, get_or}
+use Rattle.std.specs.Prelude.{◌≡◌, ◌⊎◌, ℕ, ◌+◌, ◌*◌, ◌%◌, ◌<◌, ℤ, pos, ◌+ℤ◌, ◌≤ℤ◌, suc, if◌then◌else◌, List, [], ◌∷◌, length, get_or}
 use Rattle.semantics.specs.Measures.{names_in}
 use Rattle.semantics.specs.Names.{same_name}
 use Rattle.semantics.specs.Term.{Term}

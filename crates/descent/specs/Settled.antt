@@ -1,5 +1,5 @@
 -- What holds of a kept sum while its pieces are put right one after the other.
-use Rattle.std.specs.Prelude.{◌≡◌, ℕ, ◌+◌, ◌*◌, ◌-◌, ◌^◌, ◌<◌, ◌≤◌, ◌⊎◌, true, false, ℤ, pos, ◌+ℤ◌, ◌≤ℤ◌, unsigned_abs, None, List, length, get_or}
+use Rattle.std.specs.Prelude.{◌≡◌, ℕ, ◌+◌, ◌*◌, ◌-◌, ◌^◌, ◌<◌, ◌≤◌, ◌⊎◌, true, false, ℤ, pos, ◌+ℤ◌, ◌≤ℤ◌, unsigned_abs, length, get_or}
 use Rattle.semantics.specs.Admission.{SumTerm}
 use Rattle.semantics.specs.Readings.{reading}
 use Rattle.semantics.specs.Term.{Term}

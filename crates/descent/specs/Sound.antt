@@ -1,5 +1,5 @@
 -- What holds of the rows of a cut, whatever readings its nodes are true of.
-use Rattle.std.specs.Prelude.{◌≡◌, ℕ, ◌^◌, ◌<◌, ◌≤◌, ℤ, unsigned_abs, Option, Some, List, length, map}
+use Rattle.std.specs.Prelude.{◌≡◌, ℕ, ◌^◌, ◌<◌, ◌≤◌, ℤ, unsigned_abs, Some, List, length, map}
 use Rattle.std.specs.List.{All}
 use Rattle.semantics.specs.Admitted.{IsAdmitted}
 use Rattle.semantics.specs.Readings.{reading}

@@ -1,5 +1,5 @@
 -- What a cut says of the sums of a query and of the query, and what each of its rows is charged for a sum.
-use Rattle.std.specs.Prelude.{◌≡◌, ℕ, ◌≤◌, ℤ, ◌-ℤ◌, Option, Some, None, List}
+use Rattle.std.specs.Prelude.{ℕ, ◌≤◌, ℤ, ◌-ℤ◌, Option, Some, None, List}
 use Rattle.std.specs.List.{sum_by}
 use Rattle.semantics.specs.Admission.{SumTerm}
 use Rattle.semantics.specs.Readings.{from_zero, positions_in}

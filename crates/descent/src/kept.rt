@@ -27,14 +27,18 @@ use crate::choosing::range_of_sum;
 use crate::cuts::Change;
 use crate::estimates::Estimates;
 use crate::frames::facts_of;
-use crate::readers::{Reader, cells_for, position_of, readers_of};
+use crate::readers::{Reader, cells_for, comes_again, position_of, readers_of};
 use crate::said::{say, stretch};
 use crate::tables::Table;
 use expr::{Bounds, Series};
 use num_text::Memory;
 use segment::Seg;
+use smallvec::SmallVec;
 use std::alloc::{AllocError, Global};
 use tops::Tops;
+
+/// For how many occurrences the weights of a piece are worked out without an allocation.
+const INLINE: usize = 4;
 
 /// The cells of a sum joined to pieces: how many cells a piece has, its estimate and the greatest weight of each
 /// occurrence stand at its first cell, and 0 at all others.
@@ -147,6 +151,14 @@ fn trim(lens: &mut Vec<u32>, c: usize, len: usize)
     }
 }
 
+fn weight_at(weights: &[Tops], o: usize, c: usize) -> u128
+    requires occurrence { o < length weights.now }
+    requires cell { c < length (numbers_at weights.now o) }
+    ensures { result ≡ number (numbers_at weights.now o) c }
+{
+    weights[o].get(c)
+}
+
 fn put_at(weights: &mut Vec<Tops>, o: usize, c: usize, weight: u128)
     requires occurrence { o < length weights.old.items }
     requires cell { c < length (numbers_at weights.old.items o) }
@@ -191,7 +203,8 @@ impl KeptSum {
         self.charges.put(at, charge);
     }
 
-    /// Puts the greatest weight of an occurrence in a piece. The row that it reads there is charged anew.
+    /// Puts the greatest weight of an occurrence in a piece. Where it is another one than before, the row that the
+    /// occurrence reads there is charged anew.
     fn put_weight<I: Copy>(&mut self, tables: &[Table<I>], o: usize, c: usize, weight: u128)
         requires can { CanBeCharged (shown tables.now) self.old }
         requires occurrence { o < length self.old.readers.items }
@@ -201,6 +214,9 @@ impl KeptSum {
             ≡ slice_set self.old.weights.items o (slice_set (numbers_at self.old.weights.items o) c weight) }
         ensures same { HasOtherWeights self.old self.new }
     {
+        if weight_at(self.weights.as_slice(), o, c) == weight {
+            return;
+        }
         put_at(&mut self.weights, o, c, weight);
         let reader = self.readers[o];
         let position = position_of(&reader, self.cells.offset(c) as u64);
@@ -273,7 +289,7 @@ impl KeptSum {
         let len = self.cut_off(tables, c);
         let from = self.cells.offset(c) as u64;
         let readers = self.readers.as_slice();
-        let mut weights = vec![in alloc; 0u128; readers.len()]?;
+        let mut weights = SmallVec::<u128, INLINE>::from_elem(alloc, 0, readers.len())?;
         let estimate = say(
             alloc,
             t,
@@ -282,7 +298,7 @@ impl KeptSum {
             readers,
             from,
             len,
-            &mut weights,
+            weights.as_mut_slice(),
         )?;
         self.estimates.put(c, estimate);
         self.put_weights(tables, c, weights.as_slice());
@@ -425,9 +441,13 @@ impl KeptSum {
     {
         self.charge_anew(tables, change);
         for o in 0..self.readers.len() {
-            if self.readers[o].track as usize == change.table {
-                self.settle_in(alloc, t, tables, o, &change.row.seg)?;
+            if self.readers[o].track as usize != change.table {
+                continue;
             }
+            if comes_again(self.readers.as_slice(), o) {
+                continue;
+            }
+            self.settle_in(alloc, t, tables, o, &change.row.seg)?;
         }
         Ok(())
     }

@@ -16,6 +16,7 @@ ghost use Rattle.segment.specs.Measure.{IsSane};
 
 use crate::rows::CutRow;
 use expr::{Fact, Name};
+use pages::Pages;
 use segment::{Seg, unit};
 use std::alloc::{AllocError, Global};
 use std::marker::Model;
@@ -36,7 +37,7 @@ pub(crate) struct Table<I> {
     len: u32,
     greatest: u64,
     /// Each row stands at the place of its first block of 16 readings.
-    places: Vec<Option<Row<I>>>,
+    places: Pages<Option<Row<I>>>,
     /// The first block of the row that covers a block.
     owners: Vec<u32>,
 }
@@ -54,55 +55,45 @@ impl<I> Model for Table<I> {
     ghost invariant = { IsTable };
 }
 
-/// So many places without rows.
-fn no_rows<I: Copy>(alloc: Global, count: u32) -> Result<Vec<Option<Row<I>>>, AllocError>
-    ensures { IfOk result (λ v. v.items ≡ replicate count None) }
-{
-    let mut places = Vec::with_capacity(alloc, count as usize)?;
-    for i in 0..count {
-        places.push(None)?;
-    }
-    Ok(places)
-}
-
-fn row_in<I: Copy>(places: &[Option<Row<I>>], block: usize) -> Option<Row<I>>
+fn row_in<I: Copy>(places: &Pages<Option<Row<I>>>, block: usize) -> Option<Row<I>>
     ensures { result ≡ get_or places.now block None }
 {
-    match places.get(block) {
-        Some(place) => *place,
-        None => None,
+    if block < places.len() {
+        places.get(block)
+    } else {
+        None
     }
 }
 
-fn put_one<I: Copy>(places: &mut Vec<Option<Row<I>>>, at: usize, row: Row<I>)
-    requires { at < length places.old.items }
-    ensures { places.new.items ≡ slice_set places.old.items at (Some row) }
+fn put_one<I: Copy>(places: &mut Pages<Option<Row<I>>>, at: usize, row: Row<I>)
+    requires { at < length places.old }
+    ensures { places.new ≡ slice_set places.old at (Some row) }
 {
-    places[at] = Some(row);
+    places.put(at, Some(row));
 }
 
 fn put_two<I: Copy>(
-    places: &mut Vec<Option<Row<I>>>,
+    places: &mut Pages<Option<Row<I>>>,
     first: usize,
     second: usize,
     left: Row<I>,
     right: Row<I>,
 )
-    requires first { first < length places.old.items }
-    requires second { second < length places.old.items }
-    ensures { places.new.items ≡ slice_set (slice_set places.old.items first (Some left)) second (Some right) }
+    requires first { first < length places.old }
+    requires second { second < length places.old }
+    ensures { places.new ≡ slice_set (slice_set places.old first (Some left)) second (Some right) }
 {
-    places[first] = Some(left);
-    places[second] = Some(right);
+    places.put(first, Some(left));
+    places.put(second, Some(right));
 }
 
-fn join_two<I: Copy>(places: &mut Vec<Option<Row<I>>>, first: usize, second: usize, row: Row<I>)
-    requires first { first < length places.old.items }
-    requires second { second < length places.old.items }
-    ensures { places.new.items ≡ slice_set (slice_set places.old.items first (Some row)) second None }
+fn join_two<I: Copy>(places: &mut Pages<Option<Row<I>>>, first: usize, second: usize, row: Row<I>)
+    requires first { first < length places.old }
+    requires second { second < length places.old }
+    ensures { places.new ≡ slice_set (slice_set places.old first (Some row)) second None }
 {
-    places[first] = Some(row);
-    places[second] = None;
+    places.put(first, Some(row));
+    places.put(second, None);
 }
 
 /// Blocks go over to the row that begins at one of them.
@@ -132,16 +123,17 @@ impl<I: Copy> Table<I> {
         ensures { IfOk result (λ t. t ≡ root_table series name len root) }
     {
         let Some(node) = root else {
+            let places = Pages::filled(alloc, 0, None)?;
             return Ok(Table {
                 series,
                 name,
                 len,
                 greatest: 0,
-                places: Vec::new(alloc),
+                places,
                 owners: Vec::new(alloc),
             });
         };
-        let mut places = no_rows(alloc, len.div_ceil(16))?;
+        let mut places = Pages::filled(alloc, len.div_ceil(16) as usize, None)?;
         let row = Row {
             id: node.0,
             seg: node.1,
@@ -241,15 +233,15 @@ impl<I: Copy> Table<I> {
     }
 
     /// The row at a position.
-    fn row_at(&self, position: u32) -> Row<I>
+    fn row_at(&self, position: u32) -> &Row<I>
         requires { position < self.now.len }
-        ensures there { Has (held result) self.now.rows }
-        ensures covered { covers result.seg (pos position) ≡ true }
+        ensures there { Has (held result.now) self.now.rows }
+        ensures covered { covers result.now.seg (pos position) ≡ true }
         ensures sound { IsSoundTrack (with_rows row_held self.now) }
         ensures borders { (h : Held I) → Has h self.now.rows → h.row.seg.start ≡ 16 * (h.row.seg.start / 16) }
     {
         let owner = self.owners[(position / 16) as usize];
-        let Some(row) = row_in(&self.places, owner as usize) else {
+        let Some(row) = self.places.item(owner as usize) else {
             unreachable!()
         };
         row

@@ -1,4 +1,4 @@
-use Rattle.std.proofs.Common.{◌≡◌, ◌+◌, ◌-◌, ◌++◌, inl, inr, length, ap, sym, subst, arith}
+use Rattle.std.proofs.Common.{◌≡◌, ◌-◌, ◌++◌, inl, inr, length, ap, sym, subst, arith}
 use Rattle.std.specs.Option.{option_map}
 use Rattle.semantics.specs.Admission.{SumTerm, sums_of}
 use Rattle.semantics.specs.Limits.{sums_in}

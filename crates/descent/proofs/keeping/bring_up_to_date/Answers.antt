@@ -1,4 +1,4 @@
-use Rattle.std.proofs.Common.{◌≡◌, Option, None, Some, sym, ap, subst}
+use Rattle.std.proofs.Common.{◌≡◌, Option, Some, subst}
 use Rattle.semantics.specs.Admission.{sums_of}
 use Rattle.expr.specs.Terms.{query_term_of}
 use Rattle.descent.specs.declared.cuts.Change.{Change}

@@ -1,8 +1,7 @@
-use Rattle.std.proofs.Common.{◌≡◌, ◌+◌, ◌<◌, ◌≤◌, suc, ◌++◌, ◌∷◌, [], length, take, take_all, sym, ap, subst, ◌∙◌, arith, List}
+use Rattle.std.proofs.Common.{◌≡◌, ◌+◌, ◌≤◌, suc, length, take, take_all, sym, subst, arith, List}
 use Rattle.std.specs.Option.{option_map}
 use Rattle.semantics.specs.Admission.{SumTerm, sums_of}
 use Rattle.expr.specs.Terms.{query_term_of, range_of, term_of}
-use Rattle.descent.specs.declared.kept.KeptSum.{KeptSum}
 use Rattle.descent.specs.Held.{shown}
 use Rattle.descent.specs.KeptSums.{AreKeptSums}
 use Rattle.descent.proofs.ChoiceLaws.{sums-length}

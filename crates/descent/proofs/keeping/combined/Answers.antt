@@ -1,12 +1,11 @@
-use Rattle.std.proofs.Common.{◌≡◌, List, length, map, sym, ap, subst, ◌∙◌}
+use Rattle.std.proofs.Common.{◌≡◌, List, length, sym, ap, subst, ◌∙◌}
 use Rattle.std.specs.List.{All}
 use Rattle.semantics.specs.Admission.{sums_of}
 use Rattle.expr.specs.Terms.{query_term_of}
 use Rattle.error_prop.specs.declared.query.SumIn.{SumIn}
-use Rattle.error_prop.specs.Queries.{lines_of, IsAdmittedWith, IsCombined}
+use Rattle.error_prop.specs.Queries.{IsAdmittedWith, IsCombined}
 use Rattle.error_prop.specs.QueryOver.{sums_over}
 use Rattle.error_prop.proofs.QueryOverLaws.{length-sums_over}
-use Rattle.descent.specs.declared.kept.KeptSum.{KeptSum}
 use Rattle.descent.specs.Charging.{IsLight}
 use Rattle.descent.specs.Held.{shown}
 use Rattle.descent.specs.KeptSums.{AreKeptSums}

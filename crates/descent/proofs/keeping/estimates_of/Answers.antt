@@ -1,5 +1,4 @@
-use Rattle.std.proofs.Common.{◌≡◌, ◌<◌, ◌≤◌, ◌+◌, ◌++◌, ◌∷◌, [], suc, List, length, map, take, sym, ap, subst, ◌∙◌, arith, refl}
-use Rattle.descent.specs.Sums.{sum_in}
+use Rattle.std.proofs.Common.{◌≡◌, ◌<◌, ◌+◌, ◌++◌, ◌∷◌, [], suc, length, ap, ◌∙◌, arith}
 use Rattle.descent.proofs.KeepingLaws.{says-all, says-more}
 use Rattle.descent.proofs.keeping.estimates_of.Goals as goal
 

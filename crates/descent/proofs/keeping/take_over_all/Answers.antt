@@ -1,11 +1,8 @@
-use Rattle.std.proofs.Common.{◌≡◌, ◌+◌, ◌<◌, ◌≤◌, suc, length, get_or, set, sym, ap, subst, ◌∙◌, arith, List, refl}
+use Rattle.std.proofs.Common.{◌≡◌, ◌+◌, suc, arith, refl}
 use Rattle.std.specs.Option.{option_map}
 use Rattle.semantics.specs.Admission.{SumTerm, sums_of}
 use Rattle.expr.specs.Terms.{query_term_of, range_of, term_of}
-use Rattle.descent.specs.declared.kept.KeptSum.{KeptSum}
 use Rattle.descent.specs.Held.{row_in, shown}
-use Rattle.descent.specs.Keeping.{AreTakenOver}
-use Rattle.descent.specs.KeptSums.{AreKeptSums}
 use Rattle.descent.specs.Laid.{held}
 use Rattle.descent.specs.Settled.{IsKeptBefore}
 use Rattle.descent.proofs.ChoiceLaws.{sums-length}

@@ -1,4 +1,4 @@
-use Rattle.std.proofs.Common.{◌≡◌, ℕ, ◌+◌, ◌<◌, length, refl, ap, arith, add-one}
+use Rattle.std.proofs.Common.{◌≡◌, ◌+◌, ◌<◌, length, refl, ap, arith, add-one}
 use Rattle.descent.specs.Held.{shown}
 use Rattle.descent.specs.KeptSums.{band_of}
 use Rattle.descent.specs.Laid.{blocks}

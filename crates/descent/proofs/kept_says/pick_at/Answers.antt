@@ -1,4 +1,4 @@
-use Rattle.std.proofs.Common.{◌≡◌, ℕ, ◌+◌, ◌*◌, ◌<◌, length, Some, sym, ap, ap₂, subst, ◌∙◌, arith}
+use Rattle.std.proofs.Common.{◌≡◌, ℕ, ◌*◌, ◌<◌, Some, sym, ap, ap₂, subst, ◌∙◌, arith}
 use Rattle.descent.specs.declared.Pick.{Pick}
 use Rattle.descent.specs.Held.{row_in, shown}
 use Rattle.descent.specs.Laid.{blocks}

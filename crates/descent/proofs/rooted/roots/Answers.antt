@@ -1,4 +1,4 @@
-use Rattle.std.proofs.Common.{◌≡◌, ◌≤◌, arith}
+use Rattle.std.proofs.Common.{arith}
 use Rattle.expr.specs.Terms.{query_term_of}
 use Rattle.descent.proofs.Admits.{admitted-there}
 use Rattle.descent.proofs.RootLaws.{few-tracks, tracks-apart}

@@ -1,4 +1,4 @@
-use Rattle.std.proofs.Common.{◌≡◌, List, map, sym, ap, subst, ◌∙◌}
+use Rattle.std.proofs.Common.{◌≡◌, List, sym, ap, subst, ◌∙◌}
 use Rattle.expr.specs.Terms.{query_term_of}
 use Rattle.error_prop.specs.Queries.{IsCombined}
 use Rattle.error_prop.specs.QueryOver.{sums_over}

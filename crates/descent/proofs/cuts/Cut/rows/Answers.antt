@@ -1,4 +1,4 @@
-use Rattle.std.proofs.Common.{◌≡◌, ◌<◌, ◌≤◌, ◌+◌, suc, ◌++◌, map, length, take, ap, arith}
+use Rattle.std.proofs.Common.{◌≡◌, ◌<◌, ◌+◌, suc, ◌++◌, map, length, take, ap, arith}
 use Rattle.descent.specs.Rows.{Track}
 use Rattle.descent.specs.Held.{Held, row_in, shown}
 use Rattle.descent.specs.Told.{told, told_row}

@@ -1,4 +1,4 @@
-use Rattle.std.proofs.Common.{◌≡◌, ◌<◌, ◌≤◌, List, Option, None, Some, length, set, get_or, sym, ap, subst, ◌∙◌, arith}
+use Rattle.std.proofs.Common.{◌≡◌, None, Some, set, get_or, sym, ap, subst, ◌∙◌, arith}
 use Rattle.std.proofs.lemmas.List.{length-set}
 use Rattle.semantics.specs.Admission.{sums_of}
 use Rattle.expr.specs.Terms.{query_term_of}
@@ -6,7 +6,7 @@ use Rattle.descent.specs.declared.cuts.State.{State}
 use Rattle.descent.specs.Rows.{Track, with_rows}
 use Rattle.descent.specs.Known.{AreApart}
 use Rattle.descent.specs.Sound.{IsSoundTrack}
-use Rattle.descent.specs.CutFields.{before_of, restored_at, CanBeTakenBack, IsKeptAs}
+use Rattle.descent.specs.CutFields.{before_of, CanBeTakenBack, IsKeptAs}
 use Rattle.descent.specs.Held.{Held, CutView, row_in}
 use Rattle.descent.specs.Laid.{held, restored, CanGoBack}
 use Rattle.descent.proofs.Backs.{can-at, set-restored}

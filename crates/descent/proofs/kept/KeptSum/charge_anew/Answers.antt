@@ -1,12 +1,11 @@
-use Rattle.std.proofs.Common.{◌≡◌, ℕ, ◌+◌, ◌/◌, ◌^◌, ◌<◌, ◌≤◌, List, length, set, length-set, refl, sym, ap, subst, ◌∙◌, arith}
+use Rattle.std.proofs.Common.{◌≡◌, ℕ, ◌+◌, ◌/◌, ◌<◌, List, length, set, length-set, sym, ap, subst, ◌∙◌, arith}
 use Rattle.descent.specs.declared.kept.KeptSum.{KeptSum}
 use Rattle.descent.specs.Charges.{AreRecharged}
 use Rattle.descent.specs.Held.{row_in, shown}
 use Rattle.descent.specs.KeptSums.{band_of, charge_in}
 use Rattle.descent.specs.Laid.{held}
-use Rattle.descent.specs.Readers.{track_at}
 use Rattle.descent.specs.Rows.{Track}
-use Rattle.descent.specs.Rows.{Row, Cut}
+use Rattle.descent.specs.Rows.{Row}
 use Rattle.descent.proofs.Anew.{is-split, recharge-opened, recharge-split, right-closed, right-is, shown-at, shown-length}
 use Rattle.descent.proofs.PutSteps.{row-of}
 use Rattle.descent.proofs.StartIn.{closed-over, opened-over, right-below, stood-in}

@@ -1,11 +1,11 @@
-use Rattle.std.proofs.Common.{◌≡◌, ℕ, ◌+◌, ◌-◌, ◌*◌, ◌<◌, ◌≤◌, List, length, refl, sym, ap, subst, ◌∙◌, arith}
+use Rattle.std.proofs.Common.{◌≡◌, ℕ, ◌+◌, ◌-◌, List, sym, ap, subst, ◌∙◌, arith}
 use Rattle.std.specs.Prelude.{◌⊎◌}
 use Rattle.std.proofs.lemmas.List.{get_or_default}
 use Rattle.descent.specs.declared.readers.Reader.{Reader}
 use Rattle.descent.specs.Cells.{begin_of, offset_of}
 use Rattle.descent.specs.Held.{shown}
 use Rattle.descent.specs.Said.{AllStay, AreRead, SomeComes}
-use Rattle.descent.specs.Settled.{lens_of, IsTrimmed}
+use Rattle.descent.specs.Settled.{lens_of}
 use Rattle.descent.proofs.CutSteps.{are-read, cut-at, cut-border, cut-size, piece-in}
 use Rattle.descent.proofs.kept.KeptSum.cut_off.Goals as goal
 

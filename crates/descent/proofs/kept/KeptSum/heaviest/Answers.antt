@@ -1,4 +1,4 @@
-use Rattle.std.proofs.Common.{◌≡◌, ◌<◌, length, sym, ap, arith}
+use Rattle.std.proofs.Common.{sym, ap, arith}
 use Rattle.std.proofs.lemmas.List.{length-map}
 use Rattle.descent.specs.Choice.{pick_if}
 use Rattle.descent.specs.Held.{row_in, shown}

@@ -1,12 +1,10 @@
-use Rattle.std.proofs.Common.{◌≡◌, ◌+◌, ◌<◌, ℤ, pos, ◌+ℤ◌, length, refl, sym, ap, subst, ◌∙◌, arith}
+use Rattle.std.proofs.Common.{◌≡◌, ◌<◌, pos, ◌+ℤ◌, length, refl, ap, ◌∙◌, arith}
 use Rattle.std.proofs.lemmas.Int.{ints}
 use Rattle.descent.specs.declared.kept.KeptSum.{KeptSum}
 use Rattle.descent.specs.Cells.{offset_of}
 use Rattle.descent.specs.Held.{shown}
 use Rattle.descent.specs.Rows.{Track}
-use Rattle.descent.specs.Readers.{track_at}
 use Rattle.descent.specs.Rows.{Row}
-use Rattle.descent.specs.Settled.{CanBeCharged}
 use Rattle.descent.proofs.Anew.{shown-at, shown-length}
 use Rattle.descent.proofs.PutSteps.{put-closed, put-opened, reads-place, row-of}
 use Rattle.descent.proofs.kept.KeptSum.put_weight.Goals as goal

@@ -1,9 +1,8 @@
-use Rattle.std.proofs.Common.{◌≡◌, ◌+◌, ◌<◌, ◌≤◌, length, sym, subst, ◌∙◌, arith}
+use Rattle.std.proofs.Common.{◌≡◌, ◌+◌, sym, subst, ◌∙◌, arith}
 use Rattle.std.proofs.lemmas.List.{get_or_default}
 use Rattle.expr.specs.Terms.{term_of}
-use Rattle.descent.specs.declared.kept.KeptSum.{KeptSum}
 use Rattle.descent.specs.Held.{shown}
-use Rattle.descent.specs.Settled.{lens_of, IsSettledTo}
+use Rattle.descent.specs.Settled.{lens_of}
 use Rattle.descent.proofs.CutSteps.{piece-in}
 use Rattle.descent.proofs.SettleSteps.{settle-step, IsNext}
 use Rattle.descent.proofs.kept.KeptSum.settle.Goals as goal

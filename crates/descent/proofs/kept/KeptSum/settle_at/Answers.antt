@@ -1,10 +1,9 @@
-use Rattle.std.proofs.Common.{◌≡◌, ℕ, ◌+◌, ◌<◌, ◌≤◌, ℤ, get_or, List, length, set, SFits, refl, sym, ap, subst, ◌∙◌, arith, rules}
+use Rattle.std.proofs.Common.{◌≡◌, ℕ, ◌<◌, ℤ, get_or, List, length, set, SFits, refl, sym, ap, subst, ◌∙◌, arith, rules}
 use Rattle.std.specs.Int.{w64, w128}
 use mir.Val.{to_z, of_z}
 use Rattle.std.proofs.lemmas.Int.{to_z-of_z}
 use Rattle.semantics.specs.Measures.{names_in}
 use Rattle.expr.specs.Terms.{term_of}
-use Rattle.std.specs.Prelude.{take}
 use Rattle.tops.specs.Tops.{number}
 use Rattle.descent.specs.declared.readers.Reader.{Reader}
 use Rattle.descent.specs.Cells.{offset_of}
@@ -12,8 +11,7 @@ use Rattle.descent.specs.Held.{shown}
 use Rattle.descent.specs.Kept.{IsSaid}
 use Rattle.descent.specs.Said.{AllStay, AreRead}
 use Rattle.descent.proofs.PieceSteps.{can-estimate, cut-read, is-cut-off, settled-at}
-use Rattle.descent.proofs.Settling.{taken-whole}
-use Rattle.descent.proofs.SettleSteps.{IsSettledAt}
+use Rattle.error_prop.proofs.Costs.{refilled}
 use Rattle.descent.specs.KeptSums.{numbers_at}
 use Rattle.descent.proofs.kept.KeptSum.settle_at.Goals as goal
 
@@ -69,8 +67,8 @@ returns-clause-shaped g c =
     let said-there : IsSaid cut t k.first (offset_of k.cells at) n estimate (λ o. get_or ws o 0) =
     subst (λ (z : ℤ). IsSaid cut t z (offset_of k.cells at) n estimate (λ o. get_or ws o 0)) (to_z-of_z w64 k.first l) (subst (λ from. IsSaid cut t (to_z w64 (of_z w64 k.first)) from n estimate (λ o. get_or ws o 0)) c.offset-from.ensures said) in
     let readers : length c.as_slice-readers.result.now ≡ names_in t = ap length c.as_slice-readers.ensures.value ∙ is.shaped.readers.count in
-    let count : length ws ≡ names_in t = omega (arith, c.say.auto.weights, c.deref_mut.ensures.len, c.in_ok-weights.ensures.len, readers) in
-    let whole : c.as_slice.result.now ≡ ws = c.as_slice.ensures.value ∙ taken-whole ws _ c.in_ok-weights.weights.len (omega (arith, c.say.auto.weights, c.deref_mut.ensures.len)) in
+    let count : length ws ≡ names_in t = omega (arith, c.say.auto.weights, ap length c.as_mut_slice.ensures.value, c.in_ok-weights.ensures.len, readers) in
+    let whole : c.as_slice.result.now ≡ ws = c.as_slice.ensures ∙ refilled _ _ _ _ refl (omega (arith, c.say.auto.weights, ap length c.as_mut_slice.ensures.value)) in
     let here : (o : ℕ) → o < length ws → number (numbers_at c.put_weights.new.self.weights.items o) at ≡ get_or ws o 0 = subst (λ (xs : List ℕ). (o : ℕ) → o < length xs → number (numbers_at c.put_weights.new.self.weights.items o) at ≡ get_or xs o 0) whole c.put_weights.ensures.here in
     let all = settled-at cut t old k c.put_weights.new.self at n estimate ws c.put.new.self is c.requires.piece put said-there e.still count c.put_weights.ensures.can here c.put_weights.ensures.others c.put_weights.ensures.same in
     all.shaped
@@ -94,8 +92,8 @@ returns-clause-piece g c =
     let said-there : IsSaid cut t k.first (offset_of k.cells at) n estimate (λ o. get_or ws o 0) =
     subst (λ (z : ℤ). IsSaid cut t z (offset_of k.cells at) n estimate (λ o. get_or ws o 0)) (to_z-of_z w64 k.first l) (subst (λ from. IsSaid cut t (to_z w64 (of_z w64 k.first)) from n estimate (λ o. get_or ws o 0)) c.offset-from.ensures said) in
     let readers : length c.as_slice-readers.result.now ≡ names_in t = ap length c.as_slice-readers.ensures.value ∙ is.shaped.readers.count in
-    let count : length ws ≡ names_in t = omega (arith, c.say.auto.weights, c.deref_mut.ensures.len, c.in_ok-weights.ensures.len, readers) in
-    let whole : c.as_slice.result.now ≡ ws = c.as_slice.ensures.value ∙ taken-whole ws _ c.in_ok-weights.weights.len (omega (arith, c.say.auto.weights, c.deref_mut.ensures.len)) in
+    let count : length ws ≡ names_in t = omega (arith, c.say.auto.weights, ap length c.as_mut_slice.ensures.value, c.in_ok-weights.ensures.len, readers) in
+    let whole : c.as_slice.result.now ≡ ws = c.as_slice.ensures ∙ refilled _ _ _ _ refl (omega (arith, c.say.auto.weights, ap length c.as_mut_slice.ensures.value)) in
     let here : (o : ℕ) → o < length ws → number (numbers_at c.put_weights.new.self.weights.items o) at ≡ get_or ws o 0 = subst (λ (xs : List ℕ). (o : ℕ) → o < length xs → number (numbers_at c.put_weights.new.self.weights.items o) at ≡ get_or xs o 0) whole c.put_weights.ensures.here in
     let all = settled-at cut t old k c.put_weights.new.self at n estimate ws c.put.new.self is c.requires.piece put said-there e.still count c.put_weights.ensures.can here c.put_weights.ensures.others c.put_weights.ensures.same in
     all.piece
@@ -119,8 +117,8 @@ returns-clause-right g c =
     let said-there : IsSaid cut t k.first (offset_of k.cells at) n estimate (λ o. get_or ws o 0) =
     subst (λ (z : ℤ). IsSaid cut t z (offset_of k.cells at) n estimate (λ o. get_or ws o 0)) (to_z-of_z w64 k.first l) (subst (λ from. IsSaid cut t (to_z w64 (of_z w64 k.first)) from n estimate (λ o. get_or ws o 0)) c.offset-from.ensures said) in
     let readers : length c.as_slice-readers.result.now ≡ names_in t = ap length c.as_slice-readers.ensures.value ∙ is.shaped.readers.count in
-    let count : length ws ≡ names_in t = omega (arith, c.say.auto.weights, c.deref_mut.ensures.len, c.in_ok-weights.ensures.len, readers) in
-    let whole : c.as_slice.result.now ≡ ws = c.as_slice.ensures.value ∙ taken-whole ws _ c.in_ok-weights.weights.len (omega (arith, c.say.auto.weights, c.deref_mut.ensures.len)) in
+    let count : length ws ≡ names_in t = omega (arith, c.say.auto.weights, ap length c.as_mut_slice.ensures.value, c.in_ok-weights.ensures.len, readers) in
+    let whole : c.as_slice.result.now ≡ ws = c.as_slice.ensures ∙ refilled _ _ _ _ refl (omega (arith, c.say.auto.weights, ap length c.as_mut_slice.ensures.value)) in
     let here : (o : ℕ) → o < length ws → number (numbers_at c.put_weights.new.self.weights.items o) at ≡ get_or ws o 0 = subst (λ (xs : List ℕ). (o : ℕ) → o < length xs → number (numbers_at c.put_weights.new.self.weights.items o) at ≡ get_or xs o 0) whole c.put_weights.ensures.here in
     let all = settled-at cut t old k c.put_weights.new.self at n estimate ws c.put.new.self is c.requires.piece put said-there e.still count c.put_weights.ensures.can here c.put_weights.ensures.others c.put_weights.ensures.same in
     all.right
@@ -144,8 +142,8 @@ returns-clause-others g c =
     let said-there : IsSaid cut t k.first (offset_of k.cells at) n estimate (λ o. get_or ws o 0) =
     subst (λ (z : ℤ). IsSaid cut t z (offset_of k.cells at) n estimate (λ o. get_or ws o 0)) (to_z-of_z w64 k.first l) (subst (λ from. IsSaid cut t (to_z w64 (of_z w64 k.first)) from n estimate (λ o. get_or ws o 0)) c.offset-from.ensures said) in
     let readers : length c.as_slice-readers.result.now ≡ names_in t = ap length c.as_slice-readers.ensures.value ∙ is.shaped.readers.count in
-    let count : length ws ≡ names_in t = omega (arith, c.say.auto.weights, c.deref_mut.ensures.len, c.in_ok-weights.ensures.len, readers) in
-    let whole : c.as_slice.result.now ≡ ws = c.as_slice.ensures.value ∙ taken-whole ws _ c.in_ok-weights.weights.len (omega (arith, c.say.auto.weights, c.deref_mut.ensures.len)) in
+    let count : length ws ≡ names_in t = omega (arith, c.say.auto.weights, ap length c.as_mut_slice.ensures.value, c.in_ok-weights.ensures.len, readers) in
+    let whole : c.as_slice.result.now ≡ ws = c.as_slice.ensures ∙ refilled _ _ _ _ refl (omega (arith, c.say.auto.weights, ap length c.as_mut_slice.ensures.value)) in
     let here : (o : ℕ) → o < length ws → number (numbers_at c.put_weights.new.self.weights.items o) at ≡ get_or ws o 0 = subst (λ (xs : List ℕ). (o : ℕ) → o < length xs → number (numbers_at c.put_weights.new.self.weights.items o) at ≡ get_or xs o 0) whole c.put_weights.ensures.here in
     let all = settled-at cut t old k c.put_weights.new.self at n estimate ws c.put.new.self is c.requires.piece put said-there e.still count c.put_weights.ensures.can here c.put_weights.ensures.others c.put_weights.ensures.same in
     all.others
@@ -169,8 +167,8 @@ returns-clause-same g c =
     let said-there : IsSaid cut t k.first (offset_of k.cells at) n estimate (λ o. get_or ws o 0) =
     subst (λ (z : ℤ). IsSaid cut t z (offset_of k.cells at) n estimate (λ o. get_or ws o 0)) (to_z-of_z w64 k.first l) (subst (λ from. IsSaid cut t (to_z w64 (of_z w64 k.first)) from n estimate (λ o. get_or ws o 0)) c.offset-from.ensures said) in
     let readers : length c.as_slice-readers.result.now ≡ names_in t = ap length c.as_slice-readers.ensures.value ∙ is.shaped.readers.count in
-    let count : length ws ≡ names_in t = omega (arith, c.say.auto.weights, c.deref_mut.ensures.len, c.in_ok-weights.ensures.len, readers) in
-    let whole : c.as_slice.result.now ≡ ws = c.as_slice.ensures.value ∙ taken-whole ws _ c.in_ok-weights.weights.len (omega (arith, c.say.auto.weights, c.deref_mut.ensures.len)) in
+    let count : length ws ≡ names_in t = omega (arith, c.say.auto.weights, ap length c.as_mut_slice.ensures.value, c.in_ok-weights.ensures.len, readers) in
+    let whole : c.as_slice.result.now ≡ ws = c.as_slice.ensures ∙ refilled _ _ _ _ refl (omega (arith, c.say.auto.weights, ap length c.as_mut_slice.ensures.value)) in
     let here : (o : ℕ) → o < length ws → number (numbers_at c.put_weights.new.self.weights.items o) at ≡ get_or ws o 0 = subst (λ (xs : List ℕ). (o : ℕ) → o < length xs → number (numbers_at c.put_weights.new.self.weights.items o) at ≡ get_or xs o 0) whole c.put_weights.ensures.here in
     let all = settled-at cut t old k c.put_weights.new.self at n estimate ws c.put.new.self is c.requires.piece put said-there e.still count c.put_weights.ensures.can here c.put_weights.ensures.others c.put_weights.ensures.same in
     all.same

@@ -1,6 +1,5 @@
-use Rattle.std.proofs.Common.{◌≡◌, ◌<◌, sym, subst}
+use Rattle.std.proofs.Common.{sym, subst}
 use Rattle.descent.specs.declared.readers.Reader.{Reader}
-use Rattle.descent.specs.Readers.{reader_at}
 use Rattle.descent.specs.Settled.{AreReadIn}
 use Rattle.descent.proofs.PutSteps.{reader-is}
 use Rattle.descent.proofs.kept.KeptSum.settle_in.Goals as goal

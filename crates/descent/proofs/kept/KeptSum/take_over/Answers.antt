@@ -1,18 +1,17 @@
-use Rattle.std.proofs.Common.{◌≡◌, ℕ, ◌+◌, ◌<◌, ◌≤◌, length, refl, sym, ap, subst, ◌∙◌, arith}
+use Rattle.std.proofs.Common.{◌≡◌, List, ◌<◌, length, sym, ap, subst, ◌∙◌, arith}
 use Rattle.expr.specs.Terms.{term_of}
 use Rattle.descent.specs.declared.kept.KeptSum.{KeptSum}
 use Rattle.descent.specs.declared.readers.Reader.{Reader}
+use Rattle.descent.specs.Again.{ComesAgain}
 use Rattle.descent.specs.Held.{row_in, shown}
 use Rattle.descent.specs.KeptSums.{band_of}
 use Rattle.descent.specs.Laid.{held}
-use Rattle.descent.specs.Readers.{reader_at}
 use Rattle.descent.proofs.Anew.{shown-length}
 use Rattle.descent.proofs.GivenUp.{same-band}
 use Rattle.descent.proofs.PutSteps.{reader-is}
 use Rattle.descent.proofs.StartIn.{stood-in}
-use Rattle.descent.proofs.Taking.{taken-first, taken-last, taken-other, taken-step, IsTakenTo}
+use Rattle.descent.proofs.Taking.{taken-first, taken-last, taken-later, taken-other, taken-step}
 use Rattle.descent.proofs.kept.KeptSum.take_over.Goals as goal
-use Rattle.descent.proofs.kept.KeptSum.take_over.Goals.{then-index-change+in_ok-settle_in, else-index-change}
 
 pub charge_anew-requires-clause-room : goal.charge_anew-requires-clause-room
 charge_anew-requires-clause-room g c =
@@ -40,10 +39,10 @@ settle_in-requires-clause-joints g c =
     let s = ap (λ rs. length rs.items) c.loop-o.invariant.same.readers in
     let below : c.loop-o.o < length k.readers.items = omega (arith, c.loop-o-test.true, c.len-o-end.ensures, c.charge_anew.new.self.readers.ok.0, a, s) in
     let r = reader-is k.readers.items c.loop-o.o c.index.result.now below c.index.ensures in
-    c.loop-o.invariant.joints c.loop-o.o below (ap (λ (q : Reader). q.track) r ∙ c.if-index-change.true)
+    c.loop-o.invariant.joints c.loop-o.o below (ap (λ (q : Reader). q.track) r ∙ c.if-index-change.false)
 
-pub loop-o-preserved : goal.loop-o-preserved
-loop-o-preserved g c =
+pub loop-o-preserved-then-index-change : goal.loop-o-preserved-then-index-change
+loop-o-preserved-then-index-change g c =
     let k = c.loop-o.self in
     let now = shown c.args.tables.now in
     let t = term_of c.args.t.now in
@@ -53,14 +52,19 @@ loop-o-preserved g c =
     let s = ap (λ rs. length rs.items) c.loop-o.invariant.same.readers in
     let below : c.loop-o.o < length k.readers.items = omega (arith, c.loop-o-test.true, c.len-o-end.ensures, c.charge_anew.new.self.readers.ok.0, a, s) in
     let r = reader-is k.readers.items c.loop-o.o c.index.result.now below c.index.ensures in
-    let P : KeptSum → Type 0 = λ m. IsTakenTo now t i row (c.loop-o.o + 1) c.args.self.now m in
-    elim c.if-index-change.branch [
-      | then-index-change+in_ok-settle_in w ↦
-          let e = w.in_ok-settle_in.ensures in
-          subst P (sym w.self-is) (taken-step now t i row c.loop-o.o e.0 e.1 c.args.self.now k w.settle_in.new.self c.loop-o.invariant e.2 e.3)
-      | else-index-change w ↦
-          subst P (sym w.self-is) (taken-other now t i row c.loop-o.o c.args.self.now k c.loop-o.invariant (λ q. w.if-index-change.false (sym (ap (λ (m : Reader). m.track) r) ∙ q)))
-    ]
+    taken-other now t i row c.loop-o.o c.args.self.now k c.loop-o.invariant (λ q. c.if-index-change.true (sym (ap (λ (m : Reader). m.track) r) ∙ q))
+
+pub loop-o-preserved-then-comes_again : goal.loop-o-preserved-then-comes_again
+loop-o-preserved-then-comes_again g c =
+    let k = c.loop-o.self in
+    taken-later (shown c.args.tables.now) (term_of c.args.t.now) c.args.change.now.table (row_in (held c.args.change.now.row)) c.loop-o.o c.args.self.now k c.loop-o.invariant
+    (subst (λ (rs : List Reader). ComesAgain rs c.loop-o.o) c.as_slice.ensures.value (c.comes_again.ensures c.if-comes_again.true))
+
+pub loop-o-preserved : goal.loop-o-preserved
+loop-o-preserved g c =
+    let k = c.loop-o.self in
+    let e = c.in_ok-settle_in.ensures in
+    taken-step (shown c.args.tables.now) (term_of c.args.t.now) c.args.change.now.table (row_in (held c.args.change.now.row)) c.loop-o.o e.0 e.1 c.args.self.now k c.settle_in.new.self c.loop-o.invariant e.2 e.3
 
 pub returns : goal.returns
 returns g c = λ s b.

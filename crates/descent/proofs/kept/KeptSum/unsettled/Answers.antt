@@ -1,8 +1,8 @@
-use Rattle.std.proofs.Common.{◌≡◌, ℕ, ◌+◌, ◌^◌, ◌<◌, ◌≤◌, ℤ, pos, List, length, set, SFits, refl, sym, ap, subst, ◌∙◌, arith, rules}
+use Rattle.std.proofs.Common.{◌≡◌, ◌^◌, ◌<◌, ◌≤◌, ℤ, pos, List, length, set, SFits, refl, sym, ap, subst, ◌∙◌, arith, rules}
 use Rattle.std.specs.Prelude.{◌≤ℤ◌, replicate}
 use Rattle.std.specs.Int.{w64}
 use Rattle.std.specs.Option.{option_map}
-use Rattle.std.proofs.lemmas.Int.{ints, to_z-of_z}
+use Rattle.std.proofs.lemmas.Int.{to_z-of_z}
 use mir.Val.{to_z, of_z}
 use Rattle.expr.specs.Facts.{facts_of}
 use Rattle.expr.specs.Terms.{range_of, term_of}
@@ -14,9 +14,8 @@ use Rattle.descent.specs.declared.readers.Reader.{Reader}
 use Rattle.descent.specs.Cells.{cells_in}
 use Rattle.descent.specs.KeptSums.{band_of}
 use Rattle.descent.specs.Readers.{reader_at, AreAligned, AreReadersOf}
-use Rattle.descent.specs.Said.{IsSumFrom}
-use Rattle.descent.specs.Sums.{count_of, first_of}
-use Rattle.descent.proofs.RangeLaws.{range-is, IsRangeOf}
+use Rattle.descent.specs.Sums.{count_of}
+use Rattle.descent.proofs.RangeLaws.{range-is}
 use Rattle.descent.proofs.Anew.{shown-length}
 use Rattle.descent.proofs.StartLaws.{shaped-start}
 use Rattle.descent.proofs.Starting.{few-positions}

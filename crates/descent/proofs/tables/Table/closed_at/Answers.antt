@@ -10,7 +10,7 @@ use Rattle.descent.proofs.tables.Table.closed_at.Goals as goal
 
 pub returns-in-None : goal.returns-in-None
 returns-in-None g c =
-    let r = c.row_at-row.result in
+    let r = c.row_at-row.result.now in
     let there = has-row c.args.self.now.rows (held r) c.row_at-row.ensures.there in
     let is : IsClosedOver (map row_in c.args.self.now.rows) c.args.position r.seg = record {
       row = (held r).row;
@@ -22,7 +22,7 @@ returns-in-None g c =
 
 pub returns-in-Some : goal.returns-in-Some
 returns-in-Some g c =
-    let r = c.row_at-row.result in
+    let r = c.row_at-row.result.now in
     let is : IsOpenedOver (map row_in c.args.self.now.rows) c.args.position = record {
       row = (held r).row;
       there = has-row c.args.self.now.rows (held r) c.row_at-row.ensures.there;

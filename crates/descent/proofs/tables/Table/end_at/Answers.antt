@@ -6,7 +6,7 @@ use Rattle.descent.proofs.tables.Table.end_at.Goals as goal
 
 pub overflow_add-result : goal.overflow_add-result
 overflow_add-result g c =
-    let r = c.row_at-row.result in
+    let r = c.row_at-row.result.now in
     let there = has-row c.args.self.now.rows (held r) c.row_at-row.ensures.there in
     let sound = c.row_at-row.ensures.sound in
     let w = rows-within 0 c.args.self.now.len (map row_in c.args.self.now.rows) (held r).row sound.touch there in
@@ -16,7 +16,7 @@ overflow_add-result g c =
 
 pub returns : goal.returns
 returns g c =
-    let r = c.row_at-row.result in
+    let r = c.row_at-row.result.now in
     let there = has-row c.args.self.now.rows (held r) c.row_at-row.ensures.there in
     let sound = c.row_at-row.ensures.sound in
     record {

@@ -1,4 +1,4 @@
-use Rattle.std.proofs.Common.{◌≡◌, ◌/◌, ◌+◌, ◌<◌, List, Option, None, Some, length, set, get_or, map, sym, ap, ap₂, subst, ◌∙◌, arith}
+use Rattle.std.proofs.Common.{◌≡◌, ◌/◌, ◌+◌, ◌<◌, List, None, Some, length, set, get_or, map, sym, ap, ap₂, subst, ◌∙◌, arith}
 use Rattle.std.proofs.lemmas.List.{length-set}
 use Rattle.descent.specs.declared.tables.Row.{Row}
 use Rattle.descent.specs.Held.{Held, row_in}
@@ -13,21 +13,21 @@ use Rattle.descent.proofs.tables.Table.put_back.Goals as goal
 pub unreachable-requires : goal.unreachable-requires
 unreachable-requires g c =
     let v = ap (λ (t : Track (Held g.row.I.Denot)). t.rows) c.self.view_is in
-    let xs = c.self.inside.places.items in
+    let xs = c.self.inside.places in
     let a : AreRows xs c.args.self.now.rows = record { laid = c.self.invariant.laid; view = v } in
     let b = goes-back xs c.args.self.now.rows c.args.row a c.requires.back in
-    let e : None ≡ get_or xs (c.args.row.seg.start / 16) None = c.in_default.ensures ∙ ap (λ (ys : List (Option (Row g.row.I.Denot))). get_or ys (c.args.row.seg.start / 16) None) c.deref.ensures.value in
+    let e : None ≡ get_or xs (c.args.row.seg.start / 16) None = c.in_default.ensures in
     let bad : None ≡ Some b.left = e ∙ b.found in
     cc
 
 pub invariant_of-self : goal.invariant_of-self
 invariant_of-self g c =
     let v = ap (λ (t : Track (Held g.row.I.Denot)). t.rows) c.self.view_is in
-    let xs = c.self.inside.places.items in
+    let xs = c.self.inside.places in
     let a : AreRows xs c.args.self.now.rows = record { laid = c.self.invariant.laid; view = v } in
     let b = goes-back xs c.args.self.now.rows c.args.row a c.requires.back in
     let i = c.args.row.seg.start / 16 in
-    let e : Some c.in-Some.left ≡ get_or xs i None = c.in-Some.ensures ∙ ap (λ (ys : List (Option (Row g.row.I.Denot))). get_or ys i None) c.deref.ensures.value in
+    let e : Some c.in-Some.left ≡ get_or xs i None = c.in-Some.ensures in
     let both : Some c.in-Some.left ≡ Some b.left = e ∙ b.found in
     let same : b.left ≡ c.in-Some.left = cc in
     let one = b.one (ap (λ (r : Row g.row.I.Denot). r.seg.len) same ∙ c.if-left-row.true) in
@@ -43,11 +43,11 @@ invariant_of-self g c =
 pub returns-then-left-row : goal.returns-then-left-row
 returns-then-left-row g c =
     let v = ap (λ (t : Track (Held g.row.I.Denot)). t.rows) c.self.view_is in
-    let xs = c.self.inside.places.items in
+    let xs = c.self.inside.places in
     let a : AreRows xs c.args.self.now.rows = record { laid = c.self.invariant.laid; view = v } in
     let b = goes-back xs c.args.self.now.rows c.args.row a c.requires.back in
     let i = c.args.row.seg.start / 16 in
-    let e : Some c.in-Some.left ≡ get_or xs i None = c.in-Some.ensures ∙ ap (λ (ys : List (Option (Row g.row.I.Denot))). get_or ys i None) c.deref.ensures.value in
+    let e : Some c.in-Some.left ≡ get_or xs i None = c.in-Some.ensures in
     let both : Some c.in-Some.left ≡ Some b.left = e ∙ b.found in
     let same : b.left ≡ c.in-Some.left = cc in
     let one = b.one (ap (λ (r : Row g.row.I.Denot). r.seg.len) same ∙ c.if-left-row.true) in
@@ -57,11 +57,11 @@ returns-then-left-row g c =
 pub join_two-requires-clause-second : goal.join_two-requires-clause-second
 join_two-requires-clause-second g c =
     let v = ap (λ (t : Track (Held g.row.I.Denot)). t.rows) c.self.view_is in
-    let xs = c.self.inside.places.items in
+    let xs = c.self.inside.places in
     let a : AreRows xs c.args.self.now.rows = record { laid = c.self.invariant.laid; view = v } in
     let b = goes-back xs c.args.self.now.rows c.args.row a c.requires.back in
     let i = c.args.row.seg.start / 16 in
-    let e : Some c.in-Some.left ≡ get_or xs i None = c.in-Some.ensures ∙ ap (λ (ys : List (Option (Row g.row.I.Denot))). get_or ys i None) c.deref.ensures.value in
+    let e : Some c.in-Some.left ≡ get_or xs i None = c.in-Some.ensures in
     let both : Some c.in-Some.left ≡ Some b.left = e ∙ b.found in
     let same : b.left ≡ c.in-Some.left = cc in
     let len = ap (λ (r : Row g.row.I.Denot). r.seg.len) same in
@@ -71,11 +71,11 @@ join_two-requires-clause-second g c =
 pub invariant_of-self-else-left-row : goal.invariant_of-self-else-left-row
 invariant_of-self-else-left-row g c =
     let v = ap (λ (t : Track (Held g.row.I.Denot)). t.rows) c.self.view_is in
-    let xs = c.self.inside.places.items in
+    let xs = c.self.inside.places in
     let a : AreRows xs c.args.self.now.rows = record { laid = c.self.invariant.laid; view = v } in
     let b = goes-back xs c.args.self.now.rows c.args.row a c.requires.back in
     let i = c.args.row.seg.start / 16 in
-    let e : Some c.in-Some.left ≡ get_or xs i None = c.in-Some.ensures ∙ ap (λ (ys : List (Option (Row g.row.I.Denot))). get_or ys i None) c.deref.ensures.value in
+    let e : Some c.in-Some.left ≡ get_or xs i None = c.in-Some.ensures in
     let both : Some c.in-Some.left ≡ Some b.left = e ∙ b.found in
     let same : b.left ≡ c.in-Some.left = cc in
     let len = ap (λ (r : Row g.row.I.Denot). r.seg.len) same in
@@ -97,11 +97,11 @@ invariant_of-self-else-left-row g c =
 pub returns-else-left-row : goal.returns-else-left-row
 returns-else-left-row g c =
     let v = ap (λ (t : Track (Held g.row.I.Denot)). t.rows) c.self.view_is in
-    let xs = c.self.inside.places.items in
+    let xs = c.self.inside.places in
     let a : AreRows xs c.args.self.now.rows = record { laid = c.self.invariant.laid; view = v } in
     let b = goes-back xs c.args.self.now.rows c.args.row a c.requires.back in
     let i = c.args.row.seg.start / 16 in
-    let e : Some c.in-Some.left ≡ get_or xs i None = c.in-Some.ensures ∙ ap (λ (ys : List (Option (Row g.row.I.Denot))). get_or ys i None) c.deref.ensures.value in
+    let e : Some c.in-Some.left ≡ get_or xs i None = c.in-Some.ensures in
     let both : Some c.in-Some.left ≡ Some b.left = e ∙ b.found in
     let same : b.left ≡ c.in-Some.left = cc in
     let len = ap (λ (r : Row g.row.I.Denot). r.seg.len) same in
@@ -112,10 +112,10 @@ returns-else-left-row g c =
 pub give-requires : goal.give-requires
 give-requires g c =
     let v = ap (λ (t : Track (Held g.row.I.Denot)). t.rows) c.self.view_is in
-    let xs = c.self.inside.places.items in
+    let xs = c.self.inside.places in
     let a : AreRows xs c.args.self.now.rows = record { laid = c.self.invariant.laid; view = v } in
     let i = c.args.row.seg.start / 16 in
-    let e : Some c.in-Some.left ≡ get_or xs i None = c.in-Some.ensures ∙ ap (λ (ys : List (Option (Row g.row.I.Denot))). get_or ys i None) c.deref.ensures.value in
+    let e : Some c.in-Some.left ≡ get_or xs i None = c.in-Some.ensures in
     let fits = back-fits xs c.args.self.now.rows c.args.row c.in-Some.left a c.requires.back (sym e) c.if-left-row.false in
     let count = c.self.invariant.owned.count in
     let up = c.div_ceil.ensures in

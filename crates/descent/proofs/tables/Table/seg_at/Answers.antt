@@ -13,7 +13,7 @@ use Rattle.descent.proofs.tables.Table.seg_at.Goals as goal
 
 pub bounds-xs-position : goal.bounds-xs-position
 bounds-xs-position g c =
-    let r = c.row_at-row.result in
+    let r = c.row_at-row.result.now in
     let xs = c.in-Some.xs in
     let sound = c.row_at-row.ensures.sound in
     let s = row-sound c.args.self.now.greatest c.args.self.now.rows (held r) sound.rows c.row_at-row.ensures.there in
@@ -29,7 +29,7 @@ bounds-xs-position g c =
 
 pub unit-requires : goal.unit-requires
 unit-requires g c =
-    let r = c.row_at-row.result in
+    let r = c.row_at-row.result.now in
     let xs = c.in-Some.xs in
     let sound = c.row_at-row.ensures.sound in
     let s = row-sound c.args.self.now.greatest c.args.self.now.rows (held r) sound.rows c.row_at-row.ensures.there in
@@ -48,7 +48,7 @@ unit-requires g c =
 
 pub returns-in-None : goal.returns-in-None
 returns-in-None g c =
-    let r = c.row_at-row.result in
+    let r = c.row_at-row.result.now in
     let there = has-row c.args.self.now.rows (held r) c.row_at-row.ensures.there in
     let sound = c.row_at-row.ensures.sound in
     let w = within-of r.seg c.args.position c.row_at-row.ensures.covered in
@@ -57,7 +57,7 @@ returns-in-None g c =
 
 pub returns-in-Some : goal.returns-in-Some
 returns-in-Some g c =
-    let r = c.row_at-row.result in
+    let r = c.row_at-row.result.now in
     let xs = c.in-Some.xs in
     let sound = c.row_at-row.ensures.sound in
     let s = row-sound c.args.self.now.greatest c.args.self.now.rows (held r) sound.rows c.row_at-row.ensures.there in

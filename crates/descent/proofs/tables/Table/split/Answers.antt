@@ -12,21 +12,21 @@ use Rattle.descent.proofs.tables.Table.split.Goals as goal
 pub put_two-requires-clause-first : goal.put_two-requires-clause-first
 put_two-requires-clause-first g c =
     let v = ap (λ (t : Track (Held g.row.I.Denot)). t.rows) c.self.view_is in
-    let a : AreRows c.self.inside.places.items c.args.self.now.rows = record { laid = c.self.invariant.laid; view = v } in
-    (split-rows c.self.inside.places.items c.args.self.now.rows c.args.left c.args.right a c.requires.halves).1
+    let a : AreRows c.self.inside.places c.args.self.now.rows = record { laid = c.self.invariant.laid; view = v } in
+    (split-rows c.self.inside.places c.args.self.now.rows c.args.left c.args.right a c.requires.halves).1
 
 pub put_two-requires-clause-second : goal.put_two-requires-clause-second
 put_two-requires-clause-second g c =
     let v = ap (λ (t : Track (Held g.row.I.Denot)). t.rows) c.self.view_is in
-    let a : AreRows c.self.inside.places.items c.args.self.now.rows = record { laid = c.self.invariant.laid; view = v } in
-    (split-rows c.self.inside.places.items c.args.self.now.rows c.args.left c.args.right a c.requires.halves).2
+    let a : AreRows c.self.inside.places c.args.self.now.rows = record { laid = c.self.invariant.laid; view = v } in
+    (split-rows c.self.inside.places c.args.self.now.rows c.args.left c.args.right a c.requires.halves).2
 
 pub invariant_of-self : goal.invariant_of-self
 invariant_of-self g c =
     let v = ap (λ (t : Track (Held g.row.I.Denot)). t.rows) c.self.view_is in
-    let a : AreRows c.self.inside.places.items c.args.self.now.rows = record { laid = c.self.invariant.laid; view = v } in
+    let a : AreRows c.self.inside.places c.args.self.now.rows = record { laid = c.self.invariant.laid; view = v } in
     let e = c.put_two.ensures in
-    let xs = c.self.inside.places.items in
+    let xs = c.self.inside.places in
     let p = (split-rows xs c.args.self.now.rows c.args.left c.args.right a c.requires.halves).0 in
     let first = c.args.left.seg.start / 16 in
     let n = length-set xs first (Some c.args.left) in
@@ -55,14 +55,14 @@ invariant_of-self g c =
 pub returns : goal.returns
 returns g c =
     let v = ap (λ (t : Track (Held g.row.I.Denot)). t.rows) c.self.view_is in
-    let a : AreRows c.self.inside.places.items c.args.self.now.rows = record { laid = c.self.invariant.laid; view = v } in
+    let a : AreRows c.self.inside.places c.args.self.now.rows = record { laid = c.self.invariant.laid; view = v } in
     ap₂ (λ (t : Track (Held g.row.I.Denot)) (rs : List (Held g.row.I.Denot)). record t { rows = rs }) c.self.view_is
-    (ap (λ xs. map held (present xs)) c.put_two.ensures ∙ (split-rows c.self.inside.places.items c.args.self.now.rows c.args.left c.args.right a c.requires.halves).0.view)
+    (ap (λ xs. map held (present xs)) c.put_two.ensures ∙ (split-rows c.self.inside.places c.args.self.now.rows c.args.left c.args.right a c.requires.halves).0.view)
 
 pub give-requires : goal.give-requires
 give-requires g c =
     let v = ap (λ (t : Track (Held g.row.I.Denot)). t.rows) c.self.view_is in
-    let xs = c.self.inside.places.items in
+    let xs = c.self.inside.places in
     let a : AreRows xs c.args.self.now.rows = record { laid = c.self.invariant.laid; view = v } in
     let is = c.requires.halves in
     let f = found-at c.args.left.seg.start xs c.args.self.now.rows (held is.before) a is.there (sym is.starts) in

@@ -171,13 +171,13 @@ fn head(weights: &mut [u128], t: &Series, segs: &[Seg], from: i64) -> Head {
 }
 
 /// Works out the same form many times, and answers a sum of its numbers.
-fn forms(t: &Series, segs: &[Seg]) -> u128 {
+fn forms(t: &Series, segs: &[Seg], start: i64) -> u128 {
     let mut weights = Vec::new();
     let mut sum = 0u128;
     for _ in 0..FORMS {
         weights.clear();
         weights.resize(segs.len(), 0);
-        let h = head(&mut weights, black_box(t), black_box(segs), black_box(100));
+        let h = head(&mut weights, black_box(t), black_box(segs), black_box(start));
         sum = sum
             .wrapping_add(h.f)
             .wrapping_add(h.x)
@@ -191,10 +191,11 @@ fn forms(t: &Series, segs: &[Seg]) -> u128 {
 
 fn main() {
     let (x, y) = (Box::new(Series::Base), Box::new(Series::Base));
+    let start = 100 + (env::args().count() % 8) as i64;
     let sum = match env::args().nth(1).as_deref() {
-        Some("product") => forms(&Series::Times(x, y), &SEGS),
-        Some("sum") => forms(&Series::Plus(x, y), &SEGS),
-        _ => forms(&x, &SEGS[..1]),
+        Some("product") => forms(&Series::Times(x, y), &SEGS, start),
+        Some("sum") => forms(&Series::Plus(x, y), &SEGS, start),
+        _ => forms(&x, &SEGS[..1], start),
     };
     println!("{sum}");
 }

@@ -19,7 +19,7 @@ cat > src/main.rt <<'END'
 //! How long local forms take.
 #![tactic(auto)]
 
-ghost use Rattle.std.specs.Prelude.{◌≡◌, IfOk, length, pos};
+ghost use Rattle.std.specs.Prelude.{◌≡◌, ◌≤ℤ◌, IfOk, length, pos};
 ghost use Rattle.semantics.specs.Measures.{names_in};
 ghost use Rattle.semantics.specs.Term.{base, plus, times};
 ghost use Rattle.expr.specs.Terms.{term_of};
@@ -79,15 +79,17 @@ fn sum(alloc: Global, x: Name, y: Name) -> Result<Series, Memory>
 }
 
 /// Works out the same form many times, and answers a sum of its numbers.
-fn forms(alloc: Global, t: &Series, segs: &[Seg]) -> Result<u128, Memory>
+fn forms(alloc: Global, t: &Series, segs: &[Seg], start: i64) -> Result<u128, Memory>
+    requires low { pos 100 ≤ℤ start }
+    requires high { start ≤ℤ pos 200 }
     requires limits { IsSeriesWithinLimits (term_of t.now) }
     requires count { length segs.now ≡ names_in (term_of t.now) }
-    requires covered { AreCovered (term_of t.now) segs.now (pos 100) 500 }
-    requires in_range { IsInRangeOver (term_of t.now) segs.now (pos 100) }
+    requires covered { AreCovered (term_of t.now) segs.now start 500 }
+    requires in_range { IsInRangeOver (term_of t.now) segs.now start }
 {
     let mut sum = 0u128;
     for _ in 0..FORMS {
-        let m = local_form(alloc, t, 100, 500, segs)?;
+        let m = local_form(alloc, t, start, 500, segs)?;
         sum = sum.wrapping_add(m.f).wrapping_add(m.x);
         sum = sum.wrapping_add(m.poly.c[2].unsigned_abs());
         for w in m.weights.as_slice() {
@@ -97,19 +99,28 @@ fn forms(alloc: Global, t: &Series, segs: &[Seg]) -> Result<u128, Memory>
     Ok(sum)
 }
 
-fn products(alloc: Global, x: Name, y: Name) -> Result<u128, Memory> {
+fn products(alloc: Global, x: Name, y: Name, start: i64) -> Result<u128, Memory>
+    requires low { pos 100 ≤ℤ start }
+    requires high { start ≤ℤ pos 200 }
+{
     let t = product(alloc, x, y)?;
-    forms(alloc, &t, &SEGS)
+    forms(alloc, &t, &SEGS, start)
 }
 
-fn sums(alloc: Global, x: Name, y: Name) -> Result<u128, Memory> {
+fn sums(alloc: Global, x: Name, y: Name, start: i64) -> Result<u128, Memory>
+    requires low { pos 100 ≤ℤ start }
+    requires high { start ≤ℤ pos 200 }
+{
     let t = sum(alloc, x, y)?;
-    forms(alloc, &t, &SEGS)
+    forms(alloc, &t, &SEGS, start)
 }
 
-fn bases(alloc: Global, x: Name) -> Result<u128, Memory> {
+fn bases(alloc: Global, x: Name, start: i64) -> Result<u128, Memory>
+    requires low { pos 100 ≤ℤ start }
+    requires high { start ≤ℤ pos 200 }
+{
     let t = Series::Base(x);
-    forms(alloc, &t, &SEGS[..1])
+    forms(alloc, &t, &SEGS[..1], start)
 }
 
 fn main(rt: HostRuntime) -> io::Result<()> {
@@ -120,10 +131,12 @@ fn main(rt: HostRuntime) -> io::Result<()> {
     for word in env::args(&rt)? {
         words.push(word)?;
     }
+    // A number that no compiler knows.
+    let start = 100 + (words.len() % 8) as i64;
     let sum = match words.get(1) {
-        Some(word) if word.as_str() == "product" => products(rt.alloc(), x, y),
-        Some(word) if word.as_str() == "sum" => sums(rt.alloc(), x, y),
-        _ => bases(rt.alloc(), x),
+        Some(word) if word.as_str() == "product" => products(rt.alloc(), x, y, start),
+        Some(word) if word.as_str() == "sum" => sums(rt.alloc(), x, y, start),
+        _ => bases(rt.alloc(), x, start),
     };
     let sum = sum.unwrap_or(0);
     println!(rt; "{sum}")
@@ -133,8 +146,11 @@ END
 : > specs/Lib.antt
 echo 'pub mod Fits' > proofs/Lib.antt
 cat > proofs/Fits.antt <<'END'
-use Rattle.std.proofs.Common.{ℕ, pos, negsuc, List, [], ◌∷◌, arith}
-use Rattle.std.proofs.lemmas.Int.{ints}
+use Rattle.std.proofs.Common.{◌≡◌, ℕ, ℤ, pos, negsuc, List, [], ◌∷◌, arith}
+use Rattle.std.specs.Prelude.{◌≤ℤ◌}
+use Rattle.std.proofs.lemmas.Int.{ints, to_z-of_z}
+use mir.Val.{SFits, to_z, of_z}
+use mir.Syntax.{w64}
 use Rattle.semantics.specs.Term.{Term, base, plus, times}
 use Rattle.segment.specs.declared.segments.Seg.{Seg}
 use Rattle.segment.specs.Measure.{IsSane}
@@ -146,6 +162,10 @@ g = record { start = 0; len = 1024; a = pos 1000000; b = pos 1000; c = pos 3; l 
 
 abbrev pub h : Seg
 h = record { start = 0; len = 1024; a = pos 2000000; b = negsuc 699; c = pos 0; l = 654321; d = 900; f = 9000000 }
+
+-- a number of 64 bits is read as it is
+pub at : (s : ℤ) → SFits w64 s → to_z w64 (of_z w64 s) ≡ s
+at s f = to_z-of_z w64 s f
 
 sane_g : IsSane g 1000
 sane_g = record {
@@ -159,20 +179,20 @@ sane_h = record {
   below_root = omega arith; root = omega arith; estimates = omega arith; misses = omega arith;
 }
 
-pub record IsFit (t : Term) (gs : List Seg) : Type 0 where
-  pub covered : AreCovered t gs (pos 100) 500
-  pub in_range : IsInRangeOver t gs (pos 100)
+pub record IsFit (t : Term) (gs : List Seg) (s : ℤ) : Type 0 where
+  pub covered : AreCovered t gs s 500
+  pub in_range : IsInRangeOver t gs s
 
-pub base_fits : (x : List ℕ) → IsFit (base x) (g ∷ [])
-base_fits x = record {
+pub base_fits : (x : List ℕ) (s : ℤ) → pos 100 ≤ℤ s → s ≤ℤ pos 200 → IsFit (base x) (g ∷ []) s
+base_fits x s low high = record {
   covered = (omega (arith, ints), omega (arith, ints));
   in_range = record {
     greatest = λ name. 1000; n = 1024; some = omega arith; in_range = omega arith; sane = (sane_g, omega arith);
   };
 }
 
-pub product_fits : (x y : List ℕ) → IsFit (times (base x) (base y)) (g ∷ h ∷ [])
-product_fits x y = record {
+pub product_fits : (x y : List ℕ) (s : ℤ) → pos 100 ≤ℤ s → s ≤ℤ pos 200 → IsFit (times (base x) (base y)) (g ∷ h ∷ []) s
+product_fits x y s low high = record {
   covered = ((omega (arith, ints), omega (arith, ints)), (omega (arith, ints), omega (arith, ints)));
   in_range = record {
     greatest = λ name. 1000; n = 1024; some = omega arith; in_range = (omega arith, omega arith, omega arith);
@@ -180,8 +200,8 @@ product_fits x y = record {
   };
 }
 
-pub sum_fits : (x y : List ℕ) → IsFit (plus (base x) (base y)) (g ∷ h ∷ [])
-sum_fits x y = record {
+pub sum_fits : (x y : List ℕ) (s : ℤ) → pos 100 ≤ℤ s → s ≤ℤ pos 200 → IsFit (plus (base x) (base y)) (g ∷ h ∷ []) s
+sum_fits x y s low high = record {
   covered = ((omega (arith, ints), omega (arith, ints)), (omega (arith, ints), omega (arith, ints)));
   in_range = record {
     greatest = λ name. 1000; n = 1024; some = omega arith; in_range = (omega arith, omega arith, omega arith);
@@ -191,32 +211,41 @@ sum_fits x y = record {
 END
 
 cat > proofs/bases/Answers.antt <<'END'
-use Rattle.form_speed.proofs.Fits.{base_fits}
+use Rattle.std.proofs.Common.{sym, subst, [], ◌∷◌}
+use Rattle.semantics.specs.Term.{base}
+use Rattle.bounds.specs.Reads.{AreCovered}
+use Rattle.error_prop.specs.Locals.{IsInRangeOver}
+use Rattle.form_speed.proofs.Fits.{at, g, base_fits}
 use Rattle.form_speed.proofs.bases.Goals as goal
 
 pub forms-requires-clause-covered : goal.forms-requires-clause-covered
-forms-requires-clause-covered c = (base_fits c.args.x).covered
+forms-requires-clause-covered c = subst (λ s. AreCovered (base c.args.x) (g ∷ []) s 500) (sym (at c.args.start c.ranges.start)) (base_fits c.args.x c.args.start c.requires.low c.requires.high).covered
 
 pub forms-requires-clause-in_range : goal.forms-requires-clause-in_range
-forms-requires-clause-in_range c = (base_fits c.args.x).in_range
+forms-requires-clause-in_range c = subst (λ s. IsInRangeOver (base c.args.x) (g ∷ []) s) (sym (at c.args.start c.ranges.start)) (base_fits c.args.x c.args.start c.requires.low c.requires.high).in_range
 END
 
 # The answers of a function by the law that its series fits.
 answers() {
     cat > "proofs/$1/Answers.antt" <<END
-use Rattle.std.proofs.Common.{sym, subst, pos, [], ◌∷◌}
+use Rattle.std.proofs.Common.{sym, subst, [], ◌∷◌}
+use Rattle.expr.specs.Terms.{term_of}
 use Rattle.bounds.specs.Reads.{AreCovered}
 use Rattle.error_prop.specs.Locals.{IsInRangeOver}
-use Rattle.form_speed.proofs.Fits.{g, h, $2}
+use Rattle.form_speed.proofs.Fits.{at, g, h, $2}
 use Rattle.form_speed.proofs.$1.Goals as goal
 
 pub forms-requires-clause-covered : goal.forms-requires-clause-covered
 forms-requires-clause-covered c =
-    subst (λ t. AreCovered t (g ∷ h ∷ []) (pos 100) 500) (sym c.in_ok-t.ensures) ($2 c.args.x c.args.y).covered
+    subst (λ s. AreCovered (term_of c.in_ok-t.t) (g ∷ h ∷ []) s 500) (sym (at c.args.start c.ranges.start))
+    (subst (λ t. AreCovered t (g ∷ h ∷ []) c.args.start 500) (sym c.in_ok-t.ensures)
+    ($2 c.args.x c.args.y c.args.start c.requires.low c.requires.high).covered)
 
 pub forms-requires-clause-in_range : goal.forms-requires-clause-in_range
 forms-requires-clause-in_range c =
-    subst (λ t. IsInRangeOver t (g ∷ h ∷ []) (pos 100)) (sym c.in_ok-t.ensures) ($2 c.args.x c.args.y).in_range
+    subst (λ s. IsInRangeOver (term_of c.in_ok-t.t) (g ∷ h ∷ []) s) (sym (at c.args.start c.ranges.start))
+    (subst (λ t. IsInRangeOver t (g ∷ h ∷ []) c.args.start) (sym c.in_ok-t.ensures)
+    ($2 c.args.x c.args.y c.args.start c.requires.low c.requires.high).in_range)
 END
 }
 answers products product_fits

@@ -214,7 +214,7 @@ taken-later now t i row o old new is again = record {
         below = again.below;
         track = ap (λ (m : Reader). m.track) again.same ∙ subst (λ q. (reader_at new.readers.items q).track ≡ i) e left.track;
         covered = ap (λ (m : Reader). covers row.seg (m.at +ℤ pos (offset_of new.cells c))) again.same
-        ∙ subst (λ q. covers row.seg ((reader_at new.readers.items q).at +ℤ pos (offset_of new.cells c)) ≡ true) e left.covered;
+            ∙ subst (λ q. covers row.seg ((reader_at new.readers.items q).at +ℤ pos (offset_of new.cells c)) ≡ true) e left.covered;
       })
       | inr other ↦ let f = left.from in inl (record { p = left.p; from = omega arith; below = left.below; track = left.track; covered = left.covered })
     ]

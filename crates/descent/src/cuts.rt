@@ -197,14 +197,16 @@ impl<I: Copy> Cut<I> {
         Ok(out)
     }
 
-    /// The row that is to give way in the next step, or none where no sum matters or the interval is crossed.
-    pub fn choose(&mut self, q: &Query) -> Result<Option<Pick>, Memory>
+    /// The interval of the query, and the row that is to give way in the next step, as `interval` and `choose` answer them.
+    pub(crate) fn look(&mut self, q: &Query) -> Result<(QueryOut, Option<Pick>), Memory>
         requires query { self.old.query ≡ spelled (query_term_of q.now) }
         requires plain { IsPlain (query_term_of q.now) }
         requires limits { IsWithinLimits (query_term_of q.now) }
         requires admitted { IsAdmitted (facts_in self.old.tracks) (query_term_of q.now) }
-        ensures choice { IfOk result (λ at. at ≡ choice (query_term_of q.now) (shown self.old.tracks)) }
-        ensures closed { IfOk result (λ at. IfSome at (IsClosedAt self.old.tracks)) }
+        ensures out { IfOk result (λ seen. IsCombined (query_term_of q.now) (sums_over (entries (shown self.old.tracks))
+            (query_term_of q.now)) seen.0) }
+        ensures choice { IfOk result (λ seen. seen.1 ≡ choice (query_term_of q.now) (shown self.old.tracks)) }
+        ensures closed { IfOk result (λ seen. IfSome seen.1 (IsClosedAt self.old.tracks)) }
         ensures same { self.new ≡ self.old }
     {
         let tables = self.tables.as_slice();
@@ -217,11 +219,25 @@ impl<I: Copy> Cut<I> {
             &mut self.kept,
         )?;
         let Some(k) = heaviest_line(out.sums.as_slice()) else {
-            return Ok(None);
+            return Ok((out, None));
         };
         let sum = &self.kept[k];
         let row = sum.heaviest(self.tables.as_slice());
-        Ok(row)
+        Ok((out, row))
+    }
+
+    /// The row that is to give way in the next step, or none where no sum matters or the interval is crossed.
+    pub fn choose(&mut self, q: &Query) -> Result<Option<Pick>, Memory>
+        requires query { self.old.query ≡ spelled (query_term_of q.now) }
+        requires plain { IsPlain (query_term_of q.now) }
+        requires limits { IsWithinLimits (query_term_of q.now) }
+        requires admitted { IsAdmitted (facts_in self.old.tracks) (query_term_of q.now) }
+        ensures choice { IfOk result (λ at. at ≡ choice (query_term_of q.now) (shown self.old.tracks)) }
+        ensures closed { IfOk result (λ at. IfSome at (IsClosedAt self.old.tracks)) }
+        ensures same { self.new ≡ self.old }
+    {
+        let (_, at) = self.look(q)?;
+        Ok(at)
     }
 
     /// The closed row at a place gives way to its node's children, or is opened where it is a leaf.

@@ -133,7 +133,7 @@ pub fn descend<N: Nodes>(
 {
     let mut cut = roots(alloc, nodes, source, names, q)?;
     loop {
-        let out = cut.interval(q)?;
+        let (out, at) = cut.look(q)?;
         let Some(iv) = out.iv else {
             return Err(DescentErr::Bad);
         };
@@ -141,7 +141,7 @@ pub fn descend<N: Nodes>(
             let answer = answer_of(&cut, iv)?;
             return Ok(answer);
         }
-        let Some(at) = cut.choose(q)? else {
+        let Some(at) = at else {
             return Err(DescentErr::Bad);
         };
         cut.expand(nodes, source, at)?;

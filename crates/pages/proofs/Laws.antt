@@ -56,37 +56,37 @@ zeros (suc n) (suc k) = zeros n k
 
 -- ---- pages of which none was put
 
-pub first-pages : {T : Type 0} → (n : ℕ) (blank : T) → ArePages (replicate n 0) (replicate 16 blank) blank
+pub first-pages : {T : Type 0} → (n : ℕ) (blank : T) → ArePages (replicate n 0) (replicate 4 blank) blank
 first-pages n blank =
     let o = owned-zeros n in
     record {
-      full = rw o (length-replicate 16 blank);
+      full = rw o (length-replicate 4 blank);
       within = λ k. let z = zeros n k in omega arith;
       apart = λ j k some e. let z = zeros n j in absurd (omega arith);
-      empty = λ i lt. get_or-replicate 16 i blank blank lt;
+      empty = λ i lt. get_or-replicate 4 i blank blank lt;
     }
 
 pub first-items : {T : Type 0} → (n len : ℕ) (blank : T)
-    → map (item_at (replicate n 0) (replicate 16 blank) blank) (range_with_len 0 len) ≡ replicate len blank
+    → map (item_at (replicate n 0) (replicate 4 blank) blank) (range_with_len 0 len) ≡ replicate len blank
 first-items n len blank =
-    let f = item_at (replicate n 0) (replicate 16 blank) blank in
+    let f = item_at (replicate n 0) (replicate 4 blank) blank in
     same_lists _ _ (length-map-range_with_len f 0 len ∙ sym (length-replicate len blank))
     (λ k d lt.
     let less : k < len = omega (arith, length-map-range_with_len f 0 len) in
-    let z = zeros n (k / 16) in
-    let at : 16 * get_or (replicate n 0) (k / 16) 0 + k % 16 ≡ k % 16 = omega arith in
+    let z = zeros n (k / 4) in
+    let at : 4 * get_or (replicate n 0) (k / 4) 0 + k % 4 ≡ k % 4 = omega arith in
     get_or-map-range_with_len f 0 len k k d less (omega arith)
-    ∙ ap (λ i. get_or (replicate 16 blank) i blank) at
-    ∙ get_or-replicate 16 (k % 16) blank blank (omega arith)
+    ∙ ap (λ i. get_or (replicate 4 blank) i blank) at
+    ∙ get_or-replicate 4 (k % 4) blank blank (omega arith)
     ∙ sym (get_or-replicate len k blank d less))
 
 -- ---- one more page
 
 -- items with a page more, which is blank
 pub record IsLonger {T : Type 0} (old new : List T) (blank : T) : Type 0 where
-  pub full : length new ≡ length old + 16
+  pub full : length new ≡ length old + 4
   pub same : (i : ℕ) → i < length old → get_or new i blank ≡ get_or old i blank
-  pub more : (i : ℕ) → length old ≤ i → i < length old + 16 → get_or new i blank ≡ blank
+  pub more : (i : ℕ) → length old ≤ i → i < length old + 4 → get_or new i blank ≡ blank
 
 number-set : (ns : List ℕ) (k j v : ℕ) → (k ≡ j → ⊥) → get_or (set ns j v) k 0 ≡ get_or ns k 0
 number-set ns k j v ne = rw get_or-set_other refl
@@ -134,28 +134,28 @@ pub next-items : {T : Type 0} → (ns : List ℕ) (old new : List T) (blank : T)
 next-items ns old new blank page v is longer lt none e i =
     let full = is.full in
     let here = number-here ns page v lt in
-    elim (cases_eq (i / 16) page) [
+    elim (cases_eq (i / 4) page) [
       | inl same ↦
-          let n : get_or (set ns page v) (i / 16) 0 ≡ v = rw same here in
-          let z : get_or ns (i / 16) 0 ≡ 0 = rw same none in
-          let at : 16 * get_or ns (i / 16) 0 + i % 16 ≡ i % 16 = omega arith in
-          longer.more (16 * get_or (set ns page v) (i / 16) 0 + i % 16) (omega arith) (omega arith)
-          ∙ sym (ap (λ k. get_or old k blank) at ∙ is.empty (i % 16) (omega arith))
+          let n : get_or (set ns page v) (i / 4) 0 ≡ v = rw same here in
+          let z : get_or ns (i / 4) 0 ≡ 0 = rw same none in
+          let at : 4 * get_or ns (i / 4) 0 + i % 4 ≡ i % 4 = omega arith in
+          longer.more (4 * get_or (set ns page v) (i / 4) 0 + i % 4) (omega arith) (omega arith)
+          ∙ sym (ap (λ k. get_or old k blank) at ∙ is.empty (i % 4) (omega arith))
       | inr other ↦
-          let s = number-set ns (i / 16) page v other in
-          let w = is.within (i / 16) in
-          let at : 16 * get_or (set ns page v) (i / 16) 0 + i % 16 ≡ 16 * get_or ns (i / 16) 0 + i % 16 = omega arith in
-          ap (λ k. get_or new k blank) at ∙ longer.same (16 * get_or ns (i / 16) 0 + i % 16) (omega arith)
+          let s = number-set ns (i / 4) page v other in
+          let w = is.within (i / 4) in
+          let at : 4 * get_or (set ns page v) (i / 4) 0 + i % 4 ≡ 4 * get_or ns (i / 4) 0 + i % 4 = omega arith in
+          ap (λ k. get_or new k blank) at ∙ longer.same (4 * get_or ns (i / 4) 0 + i % 4) (omega arith)
     ]
 
 -- ---- one item is put
 
 pub place-within : {T : Type 0} → (ns : List ℕ) (items : List T) (blank : T) (at : ℕ) → ArePages ns items blank
-    → 16 * get_or ns (at / 16) 0 + at % 16 < length items
-place-within ns items blank at is = let w = is.within (at / 16) in let full = is.full in omega arith
+    → 4 * get_or ns (at / 4) 0 + at % 4 < length items
+place-within ns items blank at is = let w = is.within (at / 4) in let full = is.full in omega arith
 
 pub put-pages : {T : Type 0} → (ns : List ℕ) (items : List T) (blank x : T) (place : ℕ) → ArePages ns items blank
-    → 16 ≤ place → ArePages ns (set items place x) blank
+    → 4 ≤ place → ArePages ns (set items place x) blank
 put-pages ns items blank x place is own = record {
   full = length-set items place x ∙ is.full;
   within = is.within;
@@ -164,11 +164,11 @@ put-pages ns items blank x place is own = record {
 }
 
 pub put-items : {T : Type 0} → (ns : List ℕ) (items : List T) (blank x : T) (at len : ℕ) → ArePages ns items blank
-    → 0 < get_or ns (at / 16) 0 → at < len
-    → map (item_at ns (set items (16 * get_or ns (at / 16) 0 + at % 16) x) blank) (range_with_len 0 len)
+    → 0 < get_or ns (at / 4) 0 → at < len
+    → map (item_at ns (set items (4 * get_or ns (at / 4) 0 + at % 4) x) blank) (range_with_len 0 len)
     ≡ set (map (item_at ns items blank) (range_with_len 0 len)) at x
 put-items ns items blank x at len is own lt =
-    let place = 16 * get_or ns (at / 16) 0 + at % 16 in
+    let place = 4 * get_or ns (at / 4) 0 + at % 4 in
     let f = item_at ns (set items place x) blank in
     let g = item_at ns items blank in
     let within = place-within ns items blank at is in
@@ -183,9 +183,9 @@ put-items ns items blank x at len is own lt =
           let here : item_at ns (set items place x) blank k ≡ x = rw same (get_or-set_same items place x blank within) in
           left ∙ here ∙ sym (rw same (get_or-set_same (map g (range_with_len 0 len)) at x d (omega arith)))
       | inr other ↦
-          let spot = 16 * get_or ns (k / 16) 0 + k % 16 in
+          let spot = 4 * get_or ns (k / 4) 0 + k % 4 in
           let ne : spot ≡ place → ⊥ = λ e.
-          let pages : k / 16 ≡ at / 16 = sym (is.apart (at / 16) (k / 16) own (omega arith)) in
+          let pages : k / 4 ≡ at / 4 = sym (is.apart (at / 4) (k / 4) own (omega arith)) in
           other (omega arith) in
           let here : get_or (set items place x) spot blank ≡ get_or items spot blank = rw get_or-set_other refl in
           let there : get_or (set (map g (range_with_len 0 len)) at x) k d ≡ get_or (map g (range_with_len 0 len)) k d =

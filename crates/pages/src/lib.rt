@@ -7,7 +7,7 @@ ghost use Rattle.pages.specs.Pages.{item_at, ArePages};
 use std::alloc::{AllocError, Global};
 use std::marker::Model;
 
-/// A list of items, in pages of 16. Memory for all of them is taken when it is made, but none of it is written for a page
+/// A list of items, in pages of 4. Memory for all of them is taken when it is made, but none of it is written for a page
 /// until an item is put there. So a list of which few pages are put costs little, and to put an item takes no memory.
 #[derive(Drop)]
 pub struct Pages<T> {
@@ -35,21 +35,21 @@ impl<T> Model for Pages<T> {
 fn page_for<T: Copy>(numbers: &mut Vec<usize>, items: &mut Vec<T>, page: usize, blank: T) -> usize
     requires pages { ArePages numbers.old.items items.old.items blank }
     requires within { page < length numbers.old.items }
-    requires room { 16 * (1 + length numbers.old.items) ≤ vec_capacity items.old }
+    requires room { 4 * (1 + length numbers.old.items) ≤ vec_capacity items.old }
     ensures pages { ArePages numbers.new.items items.new.items blank }
     ensures number { result ≡ slice_index numbers.new.items page }
     ensures own { 0 < result }
-    ensures within { 16 * (result + 1) ≤ length items.new.items }
+    ensures within { 4 * (result + 1) ≤ length items.new.items }
     ensures same { (i : ℕ) → item_at numbers.new.items items.new.items blank i
         ≡ item_at numbers.old.items items.old.items blank i }
     ensures count { length numbers.new.items ≡ length numbers.old.items }
-    ensures room { 16 * (1 + length numbers.new.items) ≤ vec_capacity items.new }
+    ensures room { 4 * (1 + length numbers.new.items) ≤ vec_capacity items.new }
 {
     if numbers[page] > 0 {
         return numbers[page];
     }
-    let number = items.len() / 16;
-    let Ok(()) = items.resize(16 * (number + 1), blank) else {
+    let number = items.len() / 4;
+    let Ok(()) = items.resize(4 * (number + 1), blank) else {
         unreachable!()
     };
     numbers[page] = number;
@@ -62,10 +62,10 @@ impl<T: Copy> Pages<T> {
         requires { len ≤ 2 ^ 60 }
         ensures { IfOk result (λ p. p ≡ replicate len blank) }
     {
-        let pages = len.div_ceil(16);
+        let pages = len.div_ceil(4);
         let numbers = vec![in alloc; 0usize; pages]?;
-        let mut items = Vec::with_capacity(alloc, 16 * (pages + 1))?;
-        let Ok(()) = items.resize(16, blank) else {
+        let mut items = Vec::with_capacity(alloc, 4 * (pages + 1))?;
+        let Ok(()) = items.resize(4, blank) else {
             unreachable!()
         };
         let blank = Box::new(alloc, blank)?;
@@ -96,7 +96,7 @@ impl<T: Copy> Pages<T> {
         requires { at < length self.now }
         ensures { result.now ≡ slice_index_or self.now at result.now }
     {
-        &self.items[16 * self.numbers[at / 16] + at % 16]
+        &self.items[4 * self.numbers[at / 4] + at % 4]
     }
 
     /// Puts an item at a place.
@@ -104,8 +104,8 @@ impl<T: Copy> Pages<T> {
         requires { at < length self.old }
         ensures { self.new ≡ slice_set self.old at item }
     {
-        let number = page_for(&mut self.numbers, &mut self.items, at / 16, *self.blank);
-        self.items[16 * number + at % 16] = item;
+        let number = page_for(&mut self.numbers, &mut self.items, at / 4, *self.blank);
+        self.items[4 * number + at % 4] = item;
     }
 }
 

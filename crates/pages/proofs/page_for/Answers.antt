@@ -14,7 +14,7 @@ unreachable-requires g c =
     let room = c.requires.room in
     let ok = c.args.items.now.ok in
     let len = c.len-number.ensures in
-    let short : vec_capacity c.args.items.now < 16 * (c.len-number.result / 16 + 1) =
+    let short : vec_capacity c.args.items.now < 4 * (c.len-number.result / 4 + 1) =
     rw c.in_default.is at c.resize.ensures.full in
     omega arith
 
@@ -33,7 +33,7 @@ returns-clause-pages g c =
       same = λ i lt. c.resize.ensures.by_index.0 i c.args.blank (omega arith) (omega arith);
       more = λ i low high. c.resize.ensures.by_index.1 i c.args.blank (rw c.in-Ok.is refl) (omega arith) (omega arith);
     } in
-    next-pages ns c.args.items.now.items c.resize.new.self.items c.args.blank c.args.page (c.len-number.result / 16)
+    next-pages ns c.args.items.now.items c.resize.new.self.items c.args.blank c.args.page (c.len-number.result / 4)
     c.requires.pages grown c.requires.within none (omega arith)
 
 pub returns-clause-same : goal.returns-clause-same
@@ -51,5 +51,5 @@ returns-clause-same g c =
       same = λ i lt. c.resize.ensures.by_index.0 i c.args.blank (omega arith) (omega arith);
       more = λ i low high. c.resize.ensures.by_index.1 i c.args.blank (rw c.in-Ok.is refl) (omega arith) (omega arith);
     } in
-    next-items ns c.args.items.now.items c.resize.new.self.items c.args.blank c.args.page (c.len-number.result / 16)
+    next-items ns c.args.items.now.items c.resize.new.self.items c.args.blank c.args.page (c.len-number.result / 4)
     c.requires.pages grown c.requires.within none (omega arith)

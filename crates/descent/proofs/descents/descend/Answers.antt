@@ -40,23 +40,19 @@ returns-in_default-clause-bad g c =
     crossed-bad q c.args.names.now (g.N.Nodes.means c.args.nodes.now c.args.source.now) c.args.budget c.loop-cut.cut.tracks (g.N.Nodes.lengths c.args.nodes.now) forest c.requires.plain inv.reached
     (g.met.N.Nodes.fits c.args.nodes.now c.args.source.now forest m) m (sym c.in_default.is ∙ c.in_ok-out.ensures.out.iv)
 
-pub returns-in_default-2-clause-bad : goal.returns-in_default-2-clause-bad
-returns-in_default-2-clause-bad g c =
+pub returns-in_default-at-clause-bad : goal.returns-in_default-at-clause-bad
+returns-in_default-at-clause-bad g c =
     let q = query_term_of c.args.q.now in
     let i : Some c.in-Some.iv ≡ interval_in (shown c.loop-cut.cut.tracks) q = sym c.in-Some.is ∙ c.in_ok-out.ensures.out.iv in
-    let n : None ≡ choice q (shown c.loop-cut.cut.tracks) = sym c.in_default-2.is ∙ c.in_ok-at.ensures.choice ∙ ap (λ (t : CutView g.row.N-Id.Denot). choice q (shown t.tracks)) c.in_ok-out.ensures.same in
+    let n : None ≡ choice q (shown c.loop-cut.cut.tracks) = sym c.in_default-at.is ∙ c.in_ok-out.ensures.choice in
     λ e forest m.
     none-bad q c.args.budget c.loop-cut.cut.tracks c.in-Some.iv c.width.result c.requires.plain i (width-from c.in-Some.iv c.width.result c.width.ensures.value) c.if-width-budget.false n
-
-pub choose-requires-clause-admitted : goal.choose-requires-clause-admitted
-choose-requires-clause-admitted g c =
-    subst (λ (v : CutView g.row.N-Id.Denot). IsAdmitted (facts_in v.tracks) (query_term_of c.args.q.now)) (sym c.in_ok-out.ensures.same) c.loop-cut.invariant.admitted
 
 pub expand-requires-clause-at : goal.expand-requires-clause-at
 expand-requires-clause-at g c =
     let q = query_term_of c.args.q.now in
-    let k : Some c.in-Some-2.at ≡ choice q (shown c.interval.new.self.tracks) = sym c.in-Some-2.is ∙ c.in_ok-at.ensures.choice in
-    subst (λ (t : CutView g.row.N-Id.Denot). IsClosedAt t.tracks c.in-Some-2.at) (sym c.in_ok-at.ensures.same) (chosen-closed q c.interval.new.self.tracks c.in-Some-2.at (sym k))
+    let k : Some c.in-Some-at.at ≡ choice q (shown c.loop-cut.cut.tracks) = sym c.in-Some-at.is ∙ c.in_ok-out.ensures.choice in
+    subst (λ (t : CutView g.row.N-Id.Denot). IsClosedAt t.tracks c.in-Some-at.at) (sym c.in_ok-out.ensures.same) (chosen-closed q c.loop-cut.cut.tracks c.in-Some-at.at (sym k))
 
 pub returns-then-width-budget-clause-last : goal.returns-then-width-budget-clause-last
 returns-then-width-budget-clause-last g c =
@@ -78,12 +74,12 @@ loop-cut-preserved g c =
     let old = c.loop-cut.cut.tracks in
     let new = c.expand.new.self.tracks in
     let i : Some c.in-Some.iv ≡ interval_in (shown old) q = sym c.in-Some.is ∙ c.in_ok-out.ensures.out.iv in
-    let k : Some c.in-Some-2.at ≡ choice q (shown old) = sym c.in-Some-2.is ∙ c.in_ok-at.ensures.choice ∙ ap (λ (t : CutView g.row.N-Id.Denot). choice q (shown t.tracks)) c.in_ok-out.ensures.same in
-    let same : c.choose.new.self ≡ c.loop-cut.cut = c.in_ok-at.ensures.same ∙ c.in_ok-out.ensures.same in
+    let k : Some c.in-Some-at.at ≡ choice q (shown old) = sym c.in-Some-at.is ∙ c.in_ok-out.ensures.choice in
+    let same : c.look.new.self ≡ c.loop-cut.cut = c.in_ok-out.ensures.same in
     let is = c.in_ok-expand.ensures in
     let h : heads new ≡ heads old = is.heads ∙ ap (λ (t : CutView g.row.N-Id.Denot). heads t.tracks) same in
     record {
-      reached = reached-next q c.args.names.now (g.N.Nodes.means c.args.nodes.now c.args.source.now) c.args.budget old new (g.N.Nodes.lengths c.args.nodes.now) c.in-Some.iv c.width.result c.in-Some-2.at inv.reached
+      reached = reached-next q c.args.names.now (g.N.Nodes.means c.args.nodes.now c.args.source.now) c.args.budget old new (g.N.Nodes.lengths c.args.nodes.now) c.in-Some.iv c.width.result c.in-Some-at.at inv.reached
           (g.met.N.Nodes.fits c.args.nodes.now c.args.source.now) i (width-from c.in-Some.iv c.width.result c.width.ensures.value) c.if-width-budget.false k
           (λ forest ns m nodes e. is.step forest ns ((inv.means forest).0 m) nodes (ap (λ (t : CutView g.row.N-Id.Denot). shown t.tracks) same ∙ e));
       of = is.of;

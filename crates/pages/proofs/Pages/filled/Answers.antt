@@ -11,7 +11,7 @@ invariant_of-result g c =
     let numbers : c.in_ok-numbers.numbers.items ≡ replicate n 0 =
     c.in_ok-numbers.ensures.items_if_clones_equal (λ y e. e) in
     let grown = rw c.in-Ok.is at c.resize.ensures.items in
-    let items : c.resize.new.self.items ≡ replicate 16 c.args.blank =
+    let items : c.resize.new.self.items ≡ replicate 4 c.args.blank =
     rw (c.in_ok-items.ensures.items, c.in_ok-items.ensures.len) at grown in
     let exact = c.in_ok-items.ensures.exact in
     let more = c.resize.ensures.capacity in
@@ -30,9 +30,9 @@ returns g c =
     let numbers : c.in_ok-numbers.numbers.items ≡ replicate n 0 =
     c.in_ok-numbers.ensures.items_if_clones_equal (λ y e. e) in
     let grown = rw c.in-Ok.is at c.resize.ensures.items in
-    let items : c.resize.new.self.items ≡ replicate 16 c.args.blank =
+    let items : c.resize.new.self.items ≡ replicate 4 c.args.blank =
     rw (c.in_ok-items.ensures.items, c.in_ok-items.ensures.len) at grown in
     let boxed : box_value c.in_ok-blank.blank ≡ c.args.blank = c.in_ok-blank.ensures.ok in
     ap₂ (λ (ns : List ℕ) (xs : List g.row.T.Denot). map (item_at ns xs (box_value c.in_ok-blank.blank)) (range_with_len 0 c.args.len))
     numbers items
-    ∙ ap (λ (b : g.row.T.Denot). map (item_at (replicate n 0) (replicate 16 c.args.blank) b) (range_with_len 0 c.args.len)) boxed ∙ first-items n c.args.len c.args.blank
+    ∙ ap (λ (b : g.row.T.Denot). map (item_at (replicate n 0) (replicate 4 c.args.blank) b) (range_with_len 0 c.args.len)) boxed ∙ first-items n c.args.len c.args.blank

@@ -17,7 +17,7 @@ invariant_of-self g c =
     let p = c.self.inside in
     let e = c.page_for-number.ensures in
     let lent : c.deref.result.now ≡ box_value p.blank = c.deref.ensures in
-    let place = 16 * c.page_for-number.result + c.args.at % 16 in
+    let place = 4 * c.page_for-number.result + c.args.at % 4 in
     record {
       pages = put-pages c.page_for-number.new.numbers.items c.page_for-number.new.items.items (box_value p.blank) c.args.item place
           (subst (ArePages c.page_for-number.new.numbers.items c.page_for-number.new.items.items) lent e.pages) (omega (arith, e.own));
@@ -36,8 +36,8 @@ returns g c =
     let x = c.args.item in
     let n = view-length (item_at p.numbers.items p.items.items (box_value p.blank)) p.len c.args.self.now c.self.view_is in
     let same = subst (λ (b : g.row.T.Denot). (i : ℕ) → item_at ns xs b i ≡ item_at p.numbers.items p.items.items b i) lent e.same in
-    let place : 16 * c.page_for-number.result + at % 16 ≡ 16 * get_or ns (at / 16) 0 + at % 16 = omega (arith, e.number) in
-    let own : 0 < get_or ns (at / 16) 0 = omega (arith, e.number, e.own) in
+    let place : 4 * c.page_for-number.result + at % 4 ≡ 4 * get_or ns (at / 4) 0 + at % 4 = omega (arith, e.number) in
+    let own : 0 < get_or ns (at / 4) 0 = omega (arith, e.number, e.own) in
     ap (λ (k : ℕ). map (item_at ns (set xs k x) (box_value p.blank)) (range_with_len 0 p.len)) place
     ∙ put-items ns xs (box_value p.blank) x at p.len (subst (ArePages ns xs) lent e.pages) own (omega (arith, c.requires))
     ∙ ap (λ (ys : List g.row.T.Denot). set ys at x)

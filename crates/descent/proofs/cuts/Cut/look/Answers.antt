@@ -16,7 +16,7 @@ use Rattle.descent.proofs.KeepingLaws.{can-at, chosen, kept-at, kept-length, sam
 use Rattle.descent.proofs.Reached.{closed-if}
 use Rattle.descent.proofs.Spelling.{spelling_tells_queries}
 use Rattle.descent.proofs.Works.{counts}
-use Rattle.descent.proofs.cuts.Cut.choose.Goals as goal
+use Rattle.descent.proofs.cuts.Cut.look.Goals as goal
 
 pub combined-requires-clause-kept : goal.combined-requires-clause-kept
 combined-requires-clause-kept g c =
@@ -104,3 +104,15 @@ returns-clause-choice g c =
 
 pub returns-clause-closed : goal.returns-clause-closed
 returns-clause-closed g c = closed-if (query_term_of c.args.q.now) c.args.self.now.tracks c.heaviest-row.result (returns-clause-choice g c)
+
+pub returns-clause-out : goal.returns-clause-out
+returns-clause-out g c =
+    let q = query_term_of c.args.q.now in
+    let same = c.as_slice-tables.ensures.value ∙ ap (λ (v : CutView g.row.I.Denot). v.tracks) c.self.view_is in
+    subst (λ (ts : List (Track (Held g.row.I.Denot))). IsCombined q (sums_over (entries (shown ts)) q) c.in_ok-out.out) same c.in_ok-out.ensures.out
+
+pub returns-in_default-clause-out : goal.returns-in_default-clause-out
+returns-in_default-clause-out g c =
+    let q = query_term_of c.args.q.now in
+    let same = c.as_slice-tables.ensures.value ∙ ap (λ (v : CutView g.row.I.Denot). v.tracks) c.self.view_is in
+    subst (λ (ts : List (Track (Held g.row.I.Denot))). IsCombined q (sums_over (entries (shown ts)) q) c.in_ok-out.out) same c.in_ok-out.ensures.out

@@ -216,8 +216,7 @@ head_of-returns-in-Shift t c =
 pub head_of-base_of-requires : goal.head_of-base_of-requires
 head_of-base_of-requires t c =
     let e : term_of c.args.t.now ≡ base c.in-Base.field-0 = ap term_of c.in-Base.is in
-    let f : SFits w64 c.args.from = c.ranges.from in
-    (
+    let f : SFits w64 c.args.from = c.ranges.from in (
       c.in-Base.field-0,
       subst (λ i. CanForm (base c.in-Base.field-0) c.args.segs.now (length c.args.weights.now) i c.args.len) (sym (to_z-of_z w64 c.args.from f))
           (subst (λ (x : Term). CanForm x c.args.segs.now (length c.args.weights.now) c.args.from c.args.len) e c.requires),

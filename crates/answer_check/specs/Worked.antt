@@ -1,5 +1,5 @@
 -- Worked verdicts over the readings 0 and 10 in turn.
-use Rattle.std.specs.Prelude.{◌≡◌, ℕ, ◌+◌, true, false, pos, List, [], ◌∷◌, codes, Some, Result, Ok, Err}
+use Rattle.std.specs.Prelude.{◌≡◌, ℕ, true, false, pos, List, [], ◌∷◌, codes, Some, Ok, Err}
 use Rattle.descent.specs.Worked.{turns_tree, x}
 use Rattle.expr.specs.declared.admission.AdmitErr.TheVariants as admit
 use Rattle.expr_parse.specs.declared.error.ParseErr.TheVariants as parse

@@ -1,21 +1,20 @@
 -- Over a store with a series of few and small readings behind it, the sum of that series and that of its squares are
 -- admitted.
-use Rattle.std.proofs.Common.{◌≡◌, ◌∙◌, ◌+◌, ◌*◌, ◌^◌, ◌≤◌, ℕ, ℤ, pos, Bool, true, false, List, [], ◌∷◌, ◌++◌, length, map, Option, Some, None, refl, sym, ap, arith, cond}
-use Rattle.std.specs.Prelude.{◌||◌, ◌-ℤ◌, find, max, nat_lt}
+use Rattle.std.proofs.Common.{◌≡◌, ◌∙◌, ◌*◌, ◌^◌, ◌≤◌, ℕ, ℤ, pos, Bool, true, false, List, [], ◌∷◌, ◌++◌, length, map, Some, None, refl, sym, ap, arith, cond}
+use Rattle.std.specs.Prelude.{◌||◌, find, max, nat_lt}
 use Rattle.std.specs.Int.{int_min}
 use Rattle.std.specs.Option.{option_or}
 use Rattle.std.proofs.lemmas.Bool.Decides.{nat_tests}
-use Rattle.std.proofs.lemmas.Int.{ints}
 use Rattle.std.proofs.lemmas.List.Folds.{find-append}
 use Rattle.std.proofs.lemmas.Nat.{mul-le}
 use Rattle.std.proofs.lemmas.Slice.Eq.{bytes_eq-Decides}
-use Rattle.semantics.specs.Admission.{Fact, extent_of, bound_of, domain_rule, first_refusal, greatest_at, fact_at, is_of, is_unknown, range_rule, refusal_of}
+use Rattle.semantics.specs.Admission.{Fact, extent_of, bound_of, greatest_at, fact_at, is_of, is_unknown, refusal_of}
 use Rattle.semantics.specs.Measures.{is_great_over, some_part, units_of}
 use Rattle.semantics.specs.Names.{same_name}
-use Rattle.semantics.specs.Readings.{from_zero, positions_in}
+use Rattle.semantics.specs.Readings.{positions_in}
 use Rattle.semantics.specs.Term.{base, sum, times}
 use Rattle.segment.specs.Measure.{greatest_reading}
-use Rattle.segment.specs.Tree.{all_readings, fitted_series}
+use Rattle.segment.specs.Tree.{fitted_series}
 use Rattle.segment.proofs.TreeLaws.{all_readings-fitted_series}
 use Rattle.store_file.specs.Added.{names_in, with_series}
 use Rattle.store_file.specs.Facts.{fact_in, facts_in}

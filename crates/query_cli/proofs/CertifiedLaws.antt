@@ -18,7 +18,7 @@ use Rattle.query_cli.specs.Asked.{Asked}
 use Rattle.query_cli.specs.Commands.Query.{are_bytes, asked_of, asked_of_none, asked_over}
 use Rattle.query_cli.specs.Laws.{CertificatesHold}
 use Rattle.query_cli.specs.Reading.{File, Shown, answered, held, missing, no_store, oversized, refused}
-use Rattle.query_cli.specs.Refusals.{Refusal, bad_query, query_refusal}
+use Rattle.query_cli.specs.Refusals.{bad_query, query_refusal}
 use Rattle.query_cli.specs.Steps.{and_then, refused_as, unless_refused}
 use Rattle.query_cli.proofs.PartLaws.{is_bytes}
 

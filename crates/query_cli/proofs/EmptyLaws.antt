@@ -1,5 +1,5 @@
 -- An append of no readings.
-use Rattle.std.proofs.Common.{◌≡◌, ◌∙◌, ◌<◌, ℕ, ℤ, List, [], ◌∷◌, ◌++◌, length, Option, Some, None, refl, sym, ap, ap₂, inl, inr, arith}
+use Rattle.std.proofs.Common.{◌≡◌, ◌∙◌, ◌<◌, ℕ, List, [], ◌∷◌, ◌++◌, length, Option, Some, None, refl, sym, ap, inl, inr, arith}
 use Rattle.std.proofs.lemmas.Bool.{cases_Bool}
 use Rattle.std.proofs.lemmas.List.{append-nil}
 use Rattle.semantics.specs.Names.{same_name}
@@ -13,7 +13,7 @@ use Rattle.segment.proofs.PartLaws.{part_self}
 use Rattle.seg_tree.specs.Grown.{grown_tree, told_series}
 use Rattle.seg_tree.proofs.GrownSeries.{told_series-some}
 use Rattle.store_file.specs.Grown.{grown_series}
-use Rattle.store_file.specs.StoreValue.{EachTree, IsStoreValue, Series, StoreValue, count_of}
+use Rattle.store_file.specs.StoreValue.{EachTree, Series, StoreValue, count_of}
 use Rattle.query_cli.specs.Replay.{EmptyGrowthStays}
 
 tree-stays : (degree n : ℕ) (t : Option SegTree) → IsSeriesTree n t → grown_tree degree t [] ≡ t

@@ -1,5 +1,5 @@
 -- What the header and the roots of a store's file tell of its series.
-use Rattle.std.proofs.Common.{◌≡◌, ◌∙◌, ℕ, zero, suc, ◌+◌, ◌*◌, ◌<◌, ◌≤◌, List, [], ◌∷◌, ◌++◌, length, map, drop, take, get_or, slice_index, Option, Some, None, Bool, true, false, refl, sym, ap, ap₂, subst, arith, length-append, inl, inr}
+use Rattle.std.proofs.Common.{◌≡◌, ◌∙◌, ℕ, zero, suc, ◌+◌, ◌<◌, List, [], ◌∷◌, ◌++◌, length, map, drop, take, get_or, slice_index, Option, Some, None, Bool, true, false, refl, sym, ap, ap₂, subst, arith, length-append, inl, inr}
 use Rattle.std.specs.List.{list_any}
 use Rattle.std.specs.Option.{option_map}
 use Rattle.std.specs.Prelude.{if◌then◌else◌, nat_lt}
@@ -16,7 +16,7 @@ use Rattle.lazy_tree.specs.Opened as file
 use Rattle.lazy_tree.specs.Opened.{AreRoots, Means, Opened}
 use Rattle.segment.specs.Measure.{greatest_reading}
 use Rattle.segment.specs.Nodes.{Forest, IsForest, IsSeriesTree, KeepsRoots, known_root, tree_in}
-use Rattle.segment.specs.Tree.{SegTree, all_readings, readings_of, root_of, IsTreeOver}
+use Rattle.segment.specs.Tree.{SegTree, all_readings, root_of}
 use Rattle.segment.specs.declared.segments.Seg.{Seg}
 use Rattle.segment.proofs.PartLaws.{root-true}
 use Rattle.semantics.specs.Admission.{Fact, query_names}

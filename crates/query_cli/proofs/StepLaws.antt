@@ -1,7 +1,6 @@
 -- The steps of commands.
-use Rattle.std.proofs.Common.{◌≡◌, ◌∙◌, ◌^◌, ◌+◌, ◌≤◌, ℕ, ℤ, Bool, true, false, List, length, Option, Some, None, Result, Ok, Err, refl, ap, sym, subst, inl, inr, arith}
+use Rattle.std.proofs.Common.{◌≡◌, ◌∙◌, ◌^◌, ◌≤◌, ℕ, ℤ, Bool, true, false, List, length, Option, Some, None, Result, Ok, Err, refl, ap, sym, subst, inl, inr, arith}
 use Rattle.std.specs.Prelude.{◌⊎◌, ◌≢◌, nat_lt, if◌then◌else◌}
-use Rattle.std.specs.Result.{result_err}
 use Rattle.outside.specs.Parts.{RisesBy}
 use Rattle.semantics.specs.Files.{Files, IfTold, file_of}
 use Rattle.store_file.specs.Added.{HasRoom, add_refusal, name_refusal}

@@ -1,5 +1,5 @@
 -- `append` by its steps.
-use Rattle.std.proofs.Common.{◌≡◌, ◌∙◌, ℕ, ℤ, List, Bool, true, false, Option, Some, None, Result, Ok, Err, refl}
+use Rattle.std.proofs.Common.{◌≡◌, ℕ, ℤ, List, Bool, true, false, Option, Some, Result, Ok, Err, refl}
 use Rattle.std.specs.Prelude.{if◌then◌else◌}
 use Rattle.store_file.specs.Added.{names_in}
 use Rattle.store_file.specs.Last.{last_in, last_named}
@@ -10,7 +10,7 @@ use Rattle.query_cli.specs.Commands.{append}
 use Rattle.query_cli.specs.Commands.Append.{append_by, appended_in}
 use Rattle.query_cli.specs.Commands.Column.{ColumnCommand}
 use Rattle.query_cli.specs.Refusals.{Refusal, series_fault}
-use Rattle.query_cli.specs.Steps.{column_in, last_reading_in, refused_as, short_in, store_in}
+use Rattle.query_cli.specs.Steps.{column_in, last_reading_in, short_in, store_in}
 use Rattle.query_cli.specs.Stops.{IfRefused, IsStepRefusal}
 use Rattle.query_cli.specs.declared.stop.Stop.{Stop}
 use Rattle.query_cli.proofs.CommandLaws.Column.{IsBringing}

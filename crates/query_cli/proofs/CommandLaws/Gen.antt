@@ -1,20 +1,18 @@
 -- `gen` by its steps.
-use Rattle.std.proofs.Common.{◌≡◌, ◌∙◌, ◌^◌, ◌≤◌, ℕ, List, [], ◌∷◌, ◌++◌, Option, Some, None, Result, Ok, Err, false, length, refl, sym, ap, subst, inr, arith}
+use Rattle.std.proofs.Common.{◌≡◌, ◌∙◌, ◌^◌, ◌≤◌, ℕ, List, [], ◌∷◌, ◌++◌, Option, Some, None, Ok, Err, false, length, refl, sym, ap, subst, inr, arith}
 use Rattle.std.specs.Result.{result_err}
-use Rattle.semantics.specs.Admission as admission
 use Rattle.semantics.specs.Files.{Files, IfTold, file_of, with_file}
 use Rattle.semantics.specs.Term.{QueryTerm}
 use Rattle.store_file.specs.Added.{names_in, with_series}
 use Rattle.store_file.specs.Facts.{facts_in}
 use Rattle.store_file.specs.StoreValue.{StoreValue, IsStoreValue, has_name, store_image}
 use Rattle.store_file.proofs.ImageLaws.{images-differ}
-use Rattle.segment.specs.Measure.{greatest_reading}
 use Rattle.query_cli.specs.Asked.{Asked, admitted_in}
-use Rattle.query_cli.specs.Commands.{files_after, gen}
-use Rattle.query_cli.specs.Commands.Gen.{GenCommand, GenReplays, Generates, StepsTo, addition, files_after_gen, roomy_by, roomy_in, squares_of, store_after, sum_of}
+use Rattle.query_cli.specs.Commands.{gen}
+use Rattle.query_cli.specs.Commands.Gen.{GenCommand, Generates, StepsTo, addition, files_after_gen, roomy_by, roomy_in, squares_of, store_after, sum_of}
 use Rattle.query_cli.specs.Generated.{generated}
 use Rattle.query_cli.specs.Reading.{File, Reading, file_at, held, missing, most_store, reading_in}
-use Rattle.query_cli.specs.Refusals.{Refusal, query_refusal}
+use Rattle.query_cli.specs.Refusals.{query_refusal}
 use Rattle.query_cli.specs.Replay.{Accepted, replay, IsAccepted, IsHistory, Stands}
 use Rattle.query_cli.specs.Run.{Accepts, IsDone, IsRefused}
 use Rattle.query_cli.specs.Steps.{and_then, bytes_of, room_in, store_in, unless_refused}
@@ -24,7 +22,7 @@ use Rattle.query_cli.specs.declared.stop.Stop.{Stop}
 use Rattle.query_cli.proofs.AddedSums.{added-fact, squares-admitted, sum-admitted}
 use Rattle.query_cli.proofs.GeneratedLaws.{generated-near, length-generated}
 use Rattle.query_cli.proofs.ReplayLaws.{IsHistory-more, histories-make-stores, replay-more}
-use Rattle.query_cli.proofs.StepLaws.{came, came-read, came-refused, came-store, file_at-held, refused-map, step-refused, store-unread}
+use Rattle.query_cli.proofs.StepLaws.{came, came-refused, came-store, file_at-held, refused-map, step-refused, store-unread}
 
 -- ---- both sums are admitted
 

@@ -9,7 +9,7 @@ use Rattle.query_cli.specs.Replay.{empty_store}
 use Rattle.query_cli.specs.Run.{IsDone}
 use Rattle.semantics.specs.Most.{most_scale}
 use Rattle.query_cli.specs.Words.{most_degree}
-use Rattle.query_cli.proofs.StepLaws.{came, came-read}
+use Rattle.query_cli.proofs.StepLaws.{came}
 
 pub new_done : (c : NewCommand) (files now : Option Files) (bytes text : List ℕ) → c.scale ≤ most_scale → c.degree ≤ most_degree → text ≡ new_line
     → bytes ≡ store_image (empty_store c.scale c.degree) → IfTold files (λ m. now ≡ Some (with_file m c.store bytes)) → IsDone files now (Some (new_store c)) text

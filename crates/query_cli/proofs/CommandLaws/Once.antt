@@ -1,5 +1,5 @@
 -- `once` by its steps.
-use Rattle.std.proofs.Common.{◌≡◌, ◌∙◌, ℕ, List, Option, Some, None, Ok, Err, ℤ, sym, ap, ap₂, subst}
+use Rattle.std.proofs.Common.{◌≡◌, ◌∙◌, ℕ, List, Option, Some, None, Ok, ℤ, sym, ap, ap₂, subst}
 use Rattle.std.specs.Prelude.{codes}
 use Rattle.std.specs.Result.{result_err}
 use Rattle.semantics.specs.Files.{Files, IfTold}
@@ -12,7 +12,6 @@ use Rattle.query_cli.specs.Asked.{IsAnswered, admitted_in, readings_in, value_of
 use Rattle.query_cli.specs.Commands.{once}
 use Rattle.query_cli.specs.Commands.Once.{IsSummed, OnceCommand, one_series, sum_query, summed_by, summed_in}
 use Rattle.query_cli.specs.Reading.{File, Reading, file_at, held, missing, most_csv}
-use Rattle.query_cli.specs.Refusals.{Refusal}
 use Rattle.query_cli.specs.Run.{IsDone, IsRefused}
 use Rattle.query_cli.specs.Steps.{and_then, bytes_of, column_in}
 use Rattle.query_cli.specs.Stops.{IfRefused, IfStopped, IsStepRefusal, IsUnread}

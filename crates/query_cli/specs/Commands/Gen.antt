@@ -1,6 +1,6 @@
 -- `gen`: a series of readings that a seed determines.
 use Rattle.std.specs.Fmt.{decimal}
-use Rattle.std.specs.Prelude.{◌≡◌, ◌+◌, ◌-◌, ◌*◌, ◌^◌, ◌++◌, ◌&&◌, ℕ, List, [], ◌∷◌, codes, Option, Some, None, Result, Ok, Err, if◌then◌else◌}
+use Rattle.std.specs.Prelude.{◌≡◌, ◌-◌, ◌*◌, ◌^◌, ◌++◌, ◌&&◌, ℕ, List, [], ◌∷◌, codes, Option, Some, None, Result, Ok, Err, if◌then◌else◌}
 use Rattle.semantics.specs.Files.{Files, file_of, with_file}
 use Rattle.semantics.specs.Most.{most_readings}
 use Rattle.semantics.specs.Names.{is_name}

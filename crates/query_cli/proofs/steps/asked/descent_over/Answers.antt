@@ -1,4 +1,4 @@
-use Rattle.std.proofs.Common.{◌≡◌, ◌∙◌, ap, subst, sym}
+use Rattle.std.proofs.Common.{◌∙◌, ap, subst}
 use Rattle.expr.specs.Terms.{query_term_of}
 use Rattle.descent.specs.Descents.{Nodes}
 use Rattle.descent.specs.Told.{Tells}
@@ -8,9 +8,8 @@ use Rattle.sessions.specs.Kept.{trees_of}
 use Rattle.sessions.proofs.SessionLaws.{means_own}
 use Rattle.sessions.proofs.SteadyLaw.{series_forest}
 use Rattle.sessions.proofs.StoreNodes.{are_handed, handed_admitted, handed_all, handed_apart, handed_by, handed_known, handed_roots, values_same}
-use Rattle.store_file.specs.Stored.{StoreParts, store_value}
+use Rattle.store_file.specs.Stored.{store_value}
 use Rattle.store_file.proofs.StoredLaws.{view-value}
-use Rattle.query_cli.specs.Asked.{roots_in}
 use Rattle.query_cli.proofs.AskedLaws.{holds}
 use Rattle.query_cli.proofs.steps.asked.descent_over.Goals as goal
 

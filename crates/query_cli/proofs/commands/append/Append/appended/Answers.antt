@@ -1,5 +1,4 @@
-use Rattle.std.proofs.Common.{◌≡◌, ◌∙◌, ℕ, List, Ok, Option, ℤ, length, rules, ap, ap₂, subst}
-use Rattle.std.proofs.lemmas.Result.{err_from_is_err_and}
+use Rattle.std.proofs.Common.{◌≡◌, ◌∙◌, Ok, Option, ℤ, length, rules, ap, ap₂, subst}
 use Rattle.series_csv.specs.Column.{column_of}
 use Rattle.store_file.specs.StoreValue.{store_image}
 use Rattle.store_file.specs.Stored.{store_value}

@@ -2,7 +2,7 @@ use Rattle.std.proofs.lemmas.Result.{err_from_is_err_and}
 use Rattle.expr.specs.Terms.{query_term_of}
 use Rattle.store_file.specs.Stored.{store_value}
 use Rattle.query_cli.specs.Views.{once_view}
-use Rattle.query_cli.proofs.CommandLaws.Once.{is_summed, no_column, no_sum}
+use Rattle.query_cli.proofs.CommandLaws.Once.{is_summed, no_sum}
 use Rattle.query_cli.proofs.commands.once.Once.answer_in_file.Goals as goal
 
 pub returns-in_err-text-clause-refused : goal.returns-in_err-text-clause-refused

@@ -7,7 +7,7 @@ use Rattle.std.proofs.lemmas.List.{ext_get_or}
 use Rattle.poly.specs.Terms.{value_at, norm_at, size_of, degree_of}
 use Rattle.poly.specs.Raised.{IsRaised}
 use Rattle.semantics.proofs.Ring.{diff-of, differences, diff-same}
-use Rattle.poly.proofs.TermLaws.{value_at-none, norm_at-none, value_at-take, norm_at-take, size_of-take, size_of-drop, norm_at-before, norm_at-drop}
+use Rattle.poly.proofs.TermLaws.{value_at-none, norm_at-none, value_at-take, norm_at-take, size_of-take, size_of-drop, norm_at-before, norm_at-drop, plus_zero}
 
 -- the item before, in a list with one more in front
 pub get_or-behind : (p : ℤ) (ps : List ℤ) (k : ℕ) → 0 < k → get_or (p ∷ ps) k (pos 0) ≡ get_or ps (k - 1) (pos 0)
@@ -80,6 +80,12 @@ product_step p ps qs rs us vs ws product up v_value v_norm v_size v_none value n
   right = λ h. let a = product.right h in let b = up.none a in omega (arith, size, v_size);
   both = step_both (size_of ps) (size_of qs) (size_of rs) (size_of us) (size_of vs) (size_of ws) (unsigned_abs p) product.left product.right product.both up.size up.none v_size (λ h. v_none (none_abs p h)) size;
 }
+
+-- a coefficient that is 0 adds nothing
+pub product_step_none : (p : ℤ) (ps qs rs us : List ℤ) → p ≡ pos 0 → IsProduct ps qs rs → IsRaised rs us → IsProduct (p ∷ ps) qs us
+product_step_none p ps qs rs us none product up = product_step p ps qs rs us [] us product up
+    (λ x. rw none (sym (zero_times (value_at qs x)))) (λ m. rw none (omega arith)) (omega arith) (λ h. refl)
+    (λ x. sym (plus_zero (value_at us x))) (λ m. omega arith) (omega arith)
 
 -- the part that is raised leaves room for one more term
 pub product_room : (ps qs rs : List ℤ) (k n : ℕ) → 0 < k → IsProduct (drop k ps) qs rs → degree_of ps + degree_of qs < n → size_of rs < n

@@ -100,7 +100,7 @@ impl Poly {
         Poly { c }
     }
 
-    /// The product, from the last coefficient of the left factor down.
+    /// The product, from the last coefficient of the left factor down; one that is 0 adds nothing.
     pub fn mul(&self, other: &Poly, m: u64) -> Poly
         requires place { 1 ≤ m }
         requires small { norm_at self.now.c m * norm_at other.now.c m ≤ range_limit }
@@ -111,8 +111,11 @@ impl Poly {
     {
         let mut product = Poly { c: [0; N_TERMS] };
         for j in (0..N_TERMS).rev() {
-            let part = other.scale(self.c[j], m);
-            product = product.raised().add(&part, m);
+            product = product.raised();
+            let factor = self.c[j];
+            if factor != 0 {
+                product = product.add(&other.scale(factor, m), m);
+            }
         }
         product
     }

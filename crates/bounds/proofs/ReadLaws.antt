@@ -1,26 +1,22 @@
 -- What the occurrences of a series read, by place.
-use Rattle.std.proofs.Common.{◌≡◌, ◌≢◌, ℕ, zero, suc, ◌+◌, ◌-◌, ◌≤◌, ◌<◌, ℤ, pos, negsuc, ◌+ℤ◌, ◌-ℤ◌, List, [], ◌∷◌, ◌++◌, length, map, get_or, take, drop, Bool, true, false, cond, nat_le, nat_lt, ◌&&◌, refl, sym, ap, subst, ◌∙◌, arith, inl, inr, ◌⊎◌}
-use Rattle.std.specs.Prelude.{◌≤ℤ◌, ◌<ℤ◌, int_lt}
+use Rattle.std.proofs.Common.{◌≡◌, ℕ, zero, suc, ◌+◌, ◌-◌, ◌≤◌, ◌<◌, ℤ, pos, negsuc, ◌+ℤ◌, ◌-ℤ◌, List, [], ◌∷◌, ◌++◌, length, map, get_or, take, drop, true, nat_le, nat_lt, ◌&&◌, refl, sym, ap, subst, ◌∙◌, arith, inl, inr, ◌⊎◌}
+use Rattle.std.specs.Prelude.{◌≤ℤ◌, ◌<ℤ◌}
 use Rattle.std.specs.List.{AllByRecursion}
-use Rattle.std.proofs.lemmas.Bool.{cases_lt, false≢true}
+use Rattle.std.proofs.lemmas.Bool.{cases_lt}
 use Rattle.std.proofs.lemmas.Bool.Decides.{nat_tests}
-use Rattle.std.proofs.lemmas.Int.{ints, clamps}
-use Rattle.std.proofs.lemmas.List.{get_or-drop, get_or-map, get_or-take, get_or_append_left, get_or-append-add, map-append, ext_get_or}
+use Rattle.std.proofs.lemmas.Int.{ints}
+use Rattle.std.proofs.lemmas.List.{get_or-drop, get_or-map, get_or-take, get_or_append_left, get_or-append-add, map-append}
 use Rattle.std.proofs.lemmas.List.Sums.{get_or-le-sum_by}
 use Rattle.semantics.specs.Measures.{names_in}
-use Rattle.semantics.specs.Sums.{most_below}
 use Rattle.semantics.specs.Term.{Term, base, constant, bare, plus, minus, times, shift}
-use Rattle.semantics.specs.Value.{domain_of}
 use Rattle.segment.specs.declared.segments.Seg.{Seg}
 use Rattle.segment.specs.Measure.{IsSane}
-use Rattle.bounds.specs.Cut.{Entry, Occurrence, most_weight, no_occurrence, occurrence_at, occurrences, segs_of, weight_in}
-use Rattle.bounds.specs.Segments.{covers, len_of, no_seg, seg_at, AreSaneFor, HasSaneSegs, IsSaneFor, OfEachName, TouchFrom}
-use Rattle.bounds.specs.Reads.{EachRead, IsSaneRead, Spans}
-use Rattle.bounds.specs.Shape.{first_of, left_of, read_by, reads, right_of}
-use Rattle.bounds.proofs.OccurrenceLaws.{at_occurrence, length-occurrences, moved, occurrences-later}
+use Rattle.bounds.specs.Cut.{Occurrence, no_occurrence, occurrence_at, occurrences}
+use Rattle.bounds.specs.Segments.{covers, len_of, no_seg, AreSaneFor, IsSaneFor, TouchFrom}
+use Rattle.bounds.specs.Reads.{EachRead}
+use Rattle.bounds.specs.Shape.{first_of, left_of, right_of}
+use Rattle.bounds.proofs.OccurrenceLaws.{length-occurrences}
 use Rattle.bounds.proofs.SegmentLaws.{place_in}
-use Rattle.bounds.proofs.ShapeLaws.{length-reads}
-use Rattle.bounds.proofs.TouchLaws.{segs_found}
 
 -- ---- occurrences at another position
 

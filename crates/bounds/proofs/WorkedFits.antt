@@ -1,6 +1,5 @@
 -- Fits of small series, computed.
-use Rattle.std.proofs.Common.{◌≡◌, ℕ, zero, suc, ◌+◌, ◌*◌, List, [], ◌∷◌, ◌++◌, ℤ, pos, negsuc, refl}
-use Rattle.segment.specs.declared.segments.Seg.{Seg}
+use Rattle.std.proofs.Common.{◌≡◌, ℕ, zero, suc, ◌+◌, List, [], ◌∷◌, ◌++◌, ℤ, pos, refl}
 use Rattle.segment.specs.Fit.{fit_of, flat_of, line_of, parabola_of}
 use Rattle.segment.specs.Measure.{miss, greatest_estimate, greatest_reading}
 

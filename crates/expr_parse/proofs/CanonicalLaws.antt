@@ -18,7 +18,7 @@ use Rattle.expr_parse.specs.Tokens.{at_front, at_place, before, front, tokenized
 use Rattle.expr_parse.specs.declared.error.ParseErr.{ParseErr}
 use Rattle.expr_parse.specs.declared.error.ParseErr.TheVariants as refusal
 use Rattle.expr_parse.specs.declared.lexeme.Lexeme.{Lexeme}
-use Rattle.expr_parse.specs.declared.lexeme.Lexeme.TheVariants.{Number, Named, Sum, VarNum, CovNum, Const, Shift, Open, Close, Comma, Plus, Minus, Times}
+use Rattle.expr_parse.specs.declared.lexeme.Lexeme.TheVariants.{Named, Sum, VarNum, CovNum, Const, Shift, Open, Close, Comma, Plus, Minus, Times}
 use Rattle.expr_parse.specs.declared.token.Kind.{Kind}
 use Rattle.expr_parse.specs.declared.token.Kind.TheVariants as kind
 use Rattle.expr_parse.specs.declared.token.Token.{Token}

@@ -1,6 +1,5 @@
 -- Queries that pass several limits: the first of depth, sums and names is told.
 use Rattle.std.specs.Prelude.{◌≡◌, ℕ, zero, suc, codes, None, Ok, Err, refl}
-use Rattle.semantics.specs.Limits.{most_names_in, query_depth, sums_in}
 use Rattle.semantics.specs.Term.{Term, base, plus, QueryTerm, sum, add}
 use Rattle.expr_parse.specs.declared.error.ParseErr.TheVariants as refusal
 use Rattle.expr_parse.specs.Parsed.{limited}

@@ -1,5 +1,5 @@
 -- The pieces of a range, over spans and the occurrences that read them.
-use Rattle.std.specs.Prelude.{◌≡◌, ◌≢◌, ℕ, ◌≤◌, ◌<◌, ◌+◌, ◌^◌, ℤ, pos, ◌+ℤ◌, ◌-ℤ◌, ◌≤ℤ◌, ◌<ℤ◌, List, [], ◌∷◌, length, slice_index, slice_index_or}
+use Rattle.std.specs.Prelude.{◌≡◌, ◌≢◌, ℕ, ◌≤◌, ◌<◌, ◌+◌, ℤ, pos, ◌+ℤ◌, ◌-ℤ◌, ◌≤ℤ◌, ◌<ℤ◌, List, [], ◌∷◌, length, slice_index, slice_index_or}
 use Rattle.semantics.specs.Most.{most_readings}
 use Rattle.pieces.specs.declared.spans.Span.{Span}
 use Rattle.pieces.specs.declared.spans.Occ.{Occ}

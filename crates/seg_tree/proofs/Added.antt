@@ -1,5 +1,5 @@
 -- What a step of building adds.
-use Rattle.std.proofs.Common.{◌≡◌, ℕ, ◌+◌, ◌-◌, ◌≤◌, ℤ, List, [], ◌∷◌, ◌++◌, length, take, drop, ap₂, subst}
+use Rattle.std.proofs.Common.{◌≡◌, ℕ, ◌+◌, ◌-◌, ◌≤◌, ℤ, List, length, take, drop, ap₂, subst}
 use Rattle.segment.specs.Fit.{fit_of}
 use Rattle.segment.specs.Shape.{leaf, fork, plan, IsSplit}
 use Rattle.segment.specs.Tree.{tip, node, fits}

@@ -1,5 +1,5 @@
 -- A tree stays as it is where nodes are added.
-use Rattle.std.proofs.Common.{◌≡◌, Option, Some, None, ℕ, ◌+◌, ◌-◌, ◌<◌, ◌≤◌, ℤ, List, [], ◌∷◌, ◌++◌, length, take, refl, ap, ◌∙◌, sym, subst, arith, append_assoc, unwrap_or, ◌≢◌}
+use Rattle.std.proofs.Common.{◌≡◌, Option, Some, None, ℕ, ◌+◌, ◌-◌, ◌≤◌, ℤ, List, [], ◌∷◌, ◌++◌, take, refl, ap, ◌∙◌, sym, subst, append_assoc, unwrap_or}
 use Rattle.segment.specs.Shape.{Plan, leaf, fork, plan, IsSplit}
 use Rattle.segment.proofs.ShapeLaws.{plan-leaf, plan-fork}
 use Rattle.segment.specs.declared.segments.Seg.{Seg}

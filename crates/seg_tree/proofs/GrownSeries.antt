@@ -1,5 +1,5 @@
 -- Laws of the tree of a series to which readings are added.
-use Rattle.std.proofs.Common.{◌≡◌, ℕ, zero, suc, ◌+◌, ◌-◌, ◌<◌, ◌≤◌, ◌^◌, ℤ, pos, List, [], ◌∷◌, ◌++◌, length, take, drop, map, Option, Some, None, unwrap_or, refl, ap, ap₂, ◌∙◌, sym, subst, arith, inl, inr, length-append, eq-eqb, ne_eqb, length-take-le, length-drop, take_all, unsigned_abs, get_or}
+use Rattle.std.proofs.Common.{◌≡◌, ℕ, ◌+◌, ◌-◌, ◌<◌, ◌≤◌, ◌^◌, ℤ, pos, List, [], ◌∷◌, ◌++◌, length, take, drop, map, Option, Some, None, unwrap_or, refl, ap, ap₂, ◌∙◌, sym, subst, arith, inl, inr, length-append, eq-eqb, ne_eqb, length-take-le, length-drop, take_all}
 use Rattle.std.specs.List.{Contains}
 use Rattle.std.proofs.lemmas.Bool.{cases_lt, cases_eq}
 use Rattle.std.proofs.lemmas.List.{take-append-le, get_or_append_left, get_or-append_right}
@@ -9,13 +9,12 @@ use Rattle.segment.specs.Fit.{fit_of, fit_over, readings_in}
 use Rattle.segment.specs.Growth.{kept_or_fit, tree_by}
 use Rattle.segment.specs.Measure.{AreReadings}
 use Rattle.segment.specs.Nodes.{IsSeriesTree, find_seg}
-use Rattle.segment.specs.Shape.{Range, plan, ranges, shape}
-use Rattle.segment.specs.Tree.{SegTree, readings_of, fits, fitted, fitted_series, all_readings, all_segs, segs_of, IsTreeOver}
+use Rattle.segment.specs.Shape.{Range, plan, shape}
+use Rattle.segment.specs.Tree.{SegTree, readings_of, fits, fitted_series, all_readings, all_segs, segs_of}
 use Rattle.segment.proofs.AlignedRanges.{shape-aligned}
 use Rattle.segment.proofs.GrowthLaws.{fits-behind, front_readings, grown-over, readings-tree_by}
-use Rattle.segment.proofs.ShapeLaws.{shape-plan}
-use Rattle.segment.proofs.TreeLaws.{all_segs-fitted_series, all_readings-fitted_series, fitted_series-some, fitted-is}
-use Rattle.seg_tree.specs.Grown.{told_series, grown_tree, FittedTreesGrow, GrowsTo, TreesGrow}
+use Rattle.segment.proofs.TreeLaws.{all_segs-fitted_series, all_readings-fitted_series, fitted-is}
+use Rattle.seg_tree.specs.Grown.{told_series, grown_tree, FittedTreesGrow, TreesGrow}
 
 pub told_series-some : (f : Range → Seg) (xs : List ℤ) → 0 < length xs → told_series f xs ≡ Some (tree_by f (plan 0 (length xs)) xs)
 told_series-some f [] some = absurd (omega (arith, some))

@@ -13,7 +13,6 @@ use Rattle.segment.specs.Tree.{SegTree, readings_of, root_of, plan_of, IsPartOf}
 use Rattle.segment.proofs.PartLaws.{part_self, part_left, part_right, root-true}
 use Rattle.segment.proofs.SanityLaws.{magnitude-le, greatest_reading-part}
 use Rattle.segment.proofs.ShapeLaws.{plan-fork, split_exists}
-use Rattle.seg_tree.specs.declared.nodes.Node.{Node}
 use Rattle.seg_tree.specs.declared.arena.Tree.{Tree}
 use Rattle.seg_tree.specs.Linked.{Places, IsUsed, node_at, tree_at, kept, left_child, right_child, IsFork, IsLeaf, Reaches}
 use Rattle.seg_tree.specs.Reached.{Reached, forest_of, len_of, lengths_of, roots_of, Means, Stands}

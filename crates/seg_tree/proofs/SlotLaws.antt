@@ -1,5 +1,5 @@
 -- Laws of the places of an arena as they lie in memory.
-use Rattle.std.proofs.Common.{◌≡◌, ℕ, zero, suc, ◌+◌, ◌-◌, ◌^◌, ◌<◌, ◌≤◌, ◌≢◌, List, [], ◌∷◌, ◌++◌, length, map, get_or, set, Bool, false, Option, Some, None, refl, ap, ◌∙◌, sym, subst, arith, length-append, length-set, get_or-set_same, get_or-set_other, inl, inr}
+use Rattle.std.proofs.Common.{◌≡◌, ℕ, zero, suc, ◌+◌, ◌^◌, ◌<◌, ◌≢◌, List, [], ◌∷◌, ◌++◌, length, map, get_or, set, false, Option, Some, None, refl, ap, ◌∙◌, sym, arith, length-append, length-set, get_or-set_same, get_or-set_other, inl, inr}
 use Rattle.std.proofs.Math.ListN.{get_or-map}
 use Rattle.std.proofs.Math.Seq.{get_or-append_seam}
 use Rattle.std.proofs.lemmas.List.{get_or_append_left, get_or_past}
@@ -7,7 +7,7 @@ use Rattle.std.proofs.lemmas.Bool.{cases_lt, cases_eq}
 use Rattle.seg_tree.specs.declared.nodes.Node.{Node}
 use Rattle.seg_tree.specs.declared.places.Slot.{Slot}
 use Rattle.seg_tree.specs.declared.places.Slot.TheVariants.{Used, Vacant}
-use Rattle.seg_tree.specs.Linked.{held_at, IsUsed, IsPut, used}
+use Rattle.seg_tree.specs.Linked.{held_at, IsPut, used}
 use Rattle.seg_tree.specs.Slots.{held, last_vacant, AreLinked, vacancies_of, NoMarks, AreKept, no_slot, IsVacant, link_of}
 
 pub held-at : (ss : List Slot) (p : ℕ) → held_at (map held ss) p ≡ held (get_or ss p no_slot)

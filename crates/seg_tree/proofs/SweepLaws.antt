@@ -1,6 +1,6 @@
 -- Laws of marks and of the places that a sweep makes vacant.
-use Rattle.std.proofs.Common.{◌≡◌, ℕ, zero, suc, ◌+◌, ◌-◌, ◌^◌, ◌<◌, ◌≤◌, ◌⊎◌, ◌↔◌, List, [], ◌∷◌, ◌++◌, length, map, get_or, set, take, drop, Bool, true, false, Option, Some, None, refl, ap, ap₂, ◌∙◌, sym, subst, arith, inl, inr, length-append, length-set, get_or-set_same, get_or-set_other, length-take-le, get_or-drop, take_all, true≢false, unwrap_or}
-use Rattle.std.proofs.lemmas.List.{map-set, set-get_or, get_or_past, take_more_set, take_more, map-append, drop-set-lt, drop-drop, drop_more}
+use Rattle.std.proofs.Common.{◌≡◌, ℕ, zero, suc, ◌+◌, ◌^◌, ◌<◌, ◌≤◌, ◌⊎◌, ◌↔◌, List, [], ◌∷◌, ◌++◌, length, map, get_or, set, take, drop, Bool, true, false, Option, Some, None, refl, ap, ap₂, ◌∙◌, sym, subst, arith, inl, inr, length-set, get_or-set_same, get_or-set_other, length-take-le, get_or-drop, take_all, true≢false, unwrap_or}
+use Rattle.std.proofs.lemmas.List.{map-set, set-get_or, get_or_past, take_more_set, take_more, map-append, drop-set-lt, drop-drop}
 use Rattle.std.proofs.Math.ListN.{get_or-map}
 use Rattle.std.proofs.lemmas.Bool.{cases_lt, cases_eq}
 use Rattle.std.proofs.lemmas.List.Elements.{All-nil, All-cons, All-head, All-tail}
@@ -16,7 +16,7 @@ use Rattle.seg_tree.specs.Linked.{Places, no_node, held_at, node_at, tree_at, Is
 use Rattle.seg_tree.specs.Slots.{held, mark_of, last_vacant, AreLinked, vacancies_of, NoMarks, AreKept, no_slot, IsMarked, AreClosed, marked, settled, held_if_marked}
 use Rattle.seg_tree.specs.Trees.{IsReached, ReachesAt, IsTreeAt, IsTreeOf, value_at, value_of}
 use Rattle.segment.specs.Tree.{IsTreeOver}
-use Rattle.seg_tree.proofs.SlotLaws.{held-at, used-and_vacant}
+use Rattle.seg_tree.proofs.SlotLaws.{held-at}
 
 -- ---- marks
 

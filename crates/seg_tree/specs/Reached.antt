@@ -6,7 +6,6 @@ use Rattle.segment.specs.declared.segments.Seg.{Seg}
 use Rattle.segment.specs.Nodes.{Forest, Place, tree_in}
 use Rattle.segment.specs.Shape.{Range, plan}
 use Rattle.segment.specs.Tree.{SegTree, IsPartOf, plan_of, root_of}
-use Rattle.seg_tree.specs.declared.nodes.Node.{Node}
 use Rattle.seg_tree.specs.declared.arena.Tree.{Tree}
 use Rattle.seg_tree.specs.Linked.{Places, IsLinked, Reaches, tree_at}
 use Rattle.seg_tree.specs.Trees.{IsReached, IsTreeOf, value_of}

@@ -9,7 +9,6 @@ use Rattle.segment.specs.Nodes.{Forest, Place, IsForest, IsSeriesTree, IsPlaceOf
 use Rattle.segment.specs.Shape.{Plan, leaf, fork, plan}
 use Rattle.segment.specs.Tree.{SegTree, root_of, IsTreeOver}
 use Rattle.segment.proofs.PartLaws.{IsPartOver, part-over}
-use Rattle.seg_tree.specs.declared.nodes.Node.{Node}
 use Rattle.seg_tree.specs.declared.arena.Tree.{Tree}
 use Rattle.seg_tree.specs.Linked.{Places, node_at, tree_at}
 use Rattle.seg_tree.specs.Reached.{Reached, forest_of, len_of, lengths_of, roots_of, Means, Stands}

@@ -2,7 +2,6 @@
 use Rattle.std.specs.Prelude.{◌≡◌, ◌⊎◌, ℕ, List, [], ◌∷◌, Option, Some, None}
 use Rattle.segment.specs.Shape.{plan}
 use Rattle.segment.specs.Tree.{SegTree, IsTreeOver}
-use Rattle.seg_tree.specs.declared.nodes.Node.{Node}
 use Rattle.seg_tree.specs.declared.arena.Tree.{Tree}
 use Rattle.seg_tree.specs.Linked.{Places, Reaches, IsLinked, tree_at}
 

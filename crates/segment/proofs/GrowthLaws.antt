@@ -1,5 +1,5 @@
 -- Laws of a tree to which readings are added.
-use Rattle.std.proofs.Common.{◌≡◌, ℕ, zero, suc, ◌+◌, ◌-◌, ◌*◌, ◌/◌, ◌^◌, ◌<◌, ◌≤◌, min, true, false, ◌||◌, ◌&&◌, ℤ, List, [], ◌∷◌, ◌++◌, length, take, drop, map, Some, None, unwrap_or, refl, ap, ap₂, ◌∙◌, sym, subst, arith, inl, inr, take-append-drop, length-append, eq-eqb, ne_eqb, pow_pos, if◌then◌else◌, length-take-le, length-drop, take_all, take-take}
+use Rattle.std.proofs.Common.{◌≡◌, ℕ, zero, suc, ◌+◌, ◌-◌, ◌*◌, ◌/◌, ◌^◌, ◌<◌, ◌≤◌, true, false, ℤ, List, [], ◌∷◌, ◌++◌, length, take, drop, map, Some, refl, ap, ap₂, ◌∙◌, sym, subst, arith, inl, inr, take-append-drop, eq-eqb, ne_eqb, pow_pos, if◌then◌else◌, length-take-le, length-drop, take_all, take-take}
 use Rattle.std.specs.Prelude.{nat_lt}
 use Rattle.std.specs.List.{Contains}
 use Rattle.std.proofs.lemmas.Bool.{cases_lt, cases_eq, cases_Bool, cond-true, cond-false, lt-ltb, le-ltb}
@@ -8,17 +8,17 @@ use Rattle.std.proofs.lemmas.Option.{same_Some}
 use Rattle.std.proofs.Math.Seq.{drop-append_seam}
 use Rattle.std.proofs.lemmas.List.Elements.{Contains-append_left, Contains-append_right, Contains-append_cases}
 use Rattle.segment.specs.declared.segments.Seg.{Seg}
-use Rattle.segment.specs.Fit.{fit_of, fit_over, readings_in}
+use Rattle.segment.specs.Fit.{fit_over, readings_in}
 use Rattle.segment.specs.Growth.{kept_or_fit, same_range, is_among, lacking, made, tree_by, behind, FewAreMade, NoneAreMade}
 use Rattle.segment.specs.Nodes.{find_seg}
-use Rattle.segment.specs.Shape.{Range, Plan, leaf, fork, room, plan_below, plan, IsSplit, ranges, shape, count, node_count, IsAligned}
+use Rattle.segment.specs.Shape.{Range, Plan, leaf, fork, room, plan_below, plan, IsSplit, ranges, shape, count, node_count}
 use Rattle.segment.specs.Tree.{SegTree, tip, node, readings_of, segs_of, root_of, plan_of, width, IsPartOf, AllTrue, fits, IsTreeOver}
 use Rattle.segment.specs.Measure.{AreReadings, IsTrueOf}
 use Rattle.segment.proofs.AlignedRanges.{shape-aligned}
 use Rattle.segment.proofs.FitLaws.{fit-true}
 use Rattle.segment.proofs.PartLaws.{part_left, part_right, root-true, AllTrue-part, range_of, beyond-none, part-found, part-readings}
-use Rattle.segment.proofs.ShapeLaws.{room-suc, plan_below_low, plan_below_high, enough, plan_is, plan-leaf, plan-fork, length-ranges, count-below, count-plan, shape-plan}
-use Rattle.segment.proofs.TreeLaws.{width-below, width-plan, left_readings, right_readings}
+use Rattle.segment.proofs.ShapeLaws.{room-suc, plan_below_low, plan_below_high, enough, plan_is, plan-leaf, plan-fork, count-below, count-plan, shape-plan}
+use Rattle.segment.proofs.TreeLaws.{width-below, left_readings, right_readings}
 
 -- ---- trees by the segments of their ranges
 

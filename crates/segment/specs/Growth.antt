@@ -1,10 +1,10 @@
 -- What becomes of a tree when readings are added behind its own.
-use Rattle.std.specs.Prelude.{◌≡◌, ℕ, ◌+◌, ◌*◌, ◌/◌, ◌-◌, ◌≤◌, ◌^◌, ◌==◌, nat_lt, ◌&&◌, ◌||◌, Bool, false, if◌then◌else◌, ℤ, List, [], ◌∷◌, ◌++◌, length, take, drop, Option, Some, None, unwrap_or}
+use Rattle.std.specs.Prelude.{◌≡◌, ℕ, ◌+◌, ◌*◌, ◌/◌, ◌≤◌, ◌^◌, ◌==◌, nat_lt, ◌&&◌, ◌||◌, Bool, false, if◌then◌else◌, ℤ, List, [], ◌∷◌, take, drop, unwrap_or}
 use Rattle.segment.specs.declared.segments.Seg.{Seg}
 use Rattle.segment.specs.Fit.{fit_over}
 use Rattle.segment.specs.Nodes.{find_seg}
-use Rattle.segment.specs.Shape.{Range, Plan, leaf, fork, plan, shape}
-use Rattle.segment.specs.Tree.{SegTree, tip, node, width, all_readings, all_segs}
+use Rattle.segment.specs.Shape.{Range, Plan, leaf, fork, shape}
+use Rattle.segment.specs.Tree.{SegTree, tip, node, width}
 
 -- the old segment of a range where there is one, else the fit of its readings
 abbrev pub kept_or_fit : ℕ → List ℤ → List Seg → Range → Seg

@@ -1,5 +1,5 @@
 -- The readings of a column are within the greatest reading.
-use Rattle.std.proofs.Common.{◌≡◌, ◌≤◌, ◌^◌, ℕ, zero, suc, List, [], ◌∷◌, Option, Some, None, Result, Ok, Err, Bool, true, false, cond, ltb, ℤ, unsigned_abs, refl, subst, arith}
+use Rattle.std.proofs.Common.{◌≡◌, ◌≤◌, ℕ, zero, suc, List, [], ◌∷◌, Option, Some, None, Result, Ok, Err, Bool, true, false, cond, ltb, ℤ, unsigned_abs, refl, subst, arith}
 use Rattle.std.specs.Option.{ForSome}
 use Rattle.csv.specs.Records.{field_at}
 use Rattle.num_text.specs.Cells.{cell_of}

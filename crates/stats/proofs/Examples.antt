@@ -2,7 +2,7 @@
 use Rattle.std.proofs.Common.{◌≡◌, ℕ, ℤ, pos, neg_ℤ, List, [], ◌∷◌, Some, refl}
 use Rattle.std.specs.Prelude.{codes}
 use Rattle.semantics.specs.Plain.{plain}
-use Rattle.semantics.specs.Term.{Term, base, plus, times, shift, Range, QueryTerm, number, sum, variance, covariance, mul, sub}
+use Rattle.semantics.specs.Term.{Term, base, times, shift, Range, number, sum, variance, covariance, mul, sub}
 use Rattle.semantics.specs.Value.{query_value}
 
 abbrev x : Term

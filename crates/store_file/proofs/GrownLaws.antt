@@ -1,9 +1,8 @@
 -- A store with more readings behind those of a series.
-use Rattle.std.proofs.Common.{◌≡◌, ◌⊎◌, ◌↔◌, ℕ, ◌+◌, ◌<◌, ◌≤◌, ◌^◌, Bool, true, false, nat_lt, if◌then◌else◌, ℤ, List, [], ◌∷◌, ◌++◌, length, map, Option, Some, None, Result, Ok, Err, is_some, refl, sym, ap, ap₂, subst, ◌∙◌, inl, inr, arith, length-append}
+use Rattle.std.proofs.Common.{◌≡◌, ◌⊎◌, ◌↔◌, ℕ, ◌+◌, ◌<◌, ◌≤◌, ◌^◌, Bool, true, false, nat_lt, ℤ, List, [], ◌∷◌, ◌++◌, length, map, Option, Some, None, Result, Ok, Err, is_some, refl, sym, ap, ap₂, subst, ◌∙◌, inl, inr, arith, length-append}
 use Rattle.std.specs.Prelude.{◌||◌, IfErr}
 use Rattle.std.specs.Result.{IsErrAnd}
 use Rattle.std.specs.Map.{lookup, keys_of}
-use Rattle.std.specs.Option.{option_or}
 use Rattle.std.proofs.lemmas.Bool.{cases_Bool, cases_lt}
 use Rattle.std.proofs.lemmas.Bool.Decides.{nat_tests}
 use Rattle.std.proofs.lemmas.Slice.Eq.{bytes_eq-Decides}
@@ -12,7 +11,7 @@ use Rattle.semantics.specs.Names.{same_name}
 use Rattle.segment.specs.Growth.{made, lacking, is_among}
 use Rattle.segment.specs.Measure.{AreReadings}
 use Rattle.segment.specs.Nodes.{IsSeriesTree}
-use Rattle.segment.specs.Shape.{Range, shape, node_count}
+use Rattle.segment.specs.Shape.{Range, shape}
 use Rattle.segment.specs.Tree.{SegTree, all_readings, fitted_series}
 use Rattle.segment.proofs.ShapeLaws.{shape-counted}
 use Rattle.segment.proofs.TreeLaws.{all_readings-fitted_series}
@@ -26,15 +25,13 @@ use Rattle.seg_tree.specs.declared.arena.TreeErr.TheVariants as tree
 use Rattle.seg_tree.proofs.Extended.{value_of-Extends, IsTreeOf-Extends}
 use Rattle.seg_tree.proofs.GrownSeries.{fitted-trees-grow, trees-grow}
 use Rattle.seg_tree.proofs.GrownTrees.{tree-long}
-use Rattle.store_file.specs.StoreValue.{Series, StoreValue, AreNames, EachTree, IsStoreValue, count_of, has_name, name_of}
+use Rattle.store_file.specs.StoreValue.{Series, StoreValue, EachTree, count_of, has_name, name_of}
 use Rattle.store_file.specs.Stored.{series_of, AreOf, StoreParts, IsSound, store_value}
-use Rattle.store_file.specs.Added.{names_in, with_series, series_err_of, HasRoom}
-use Rattle.store_file.specs.Grown.{readings_named, grown_series, grown_store, grown_length, growth_refusal, made_in, room_refusal, append_refusal, IsGrowable, GrowingKeepsStores, GrowthHasRoom, AreFitted, IsFitted, FittedStoresStay, FittedStoresAreOne, AppendsAreLoads, NamedReadings, named_readings, contents_of}
-use Rattle.store_file.specs.declared.adding.SeriesErr.{SeriesErr}
+use Rattle.store_file.specs.Added.{names_in, series_err_of, HasRoom}
+use Rattle.store_file.specs.Grown.{readings_named, grown_series, grown_store, grown_length, made_in, room_refusal, append_refusal, IsGrowable, GrowingKeepsStores, GrowthHasRoom, AreFitted, FittedStoresStay, FittedStoresAreOne, AppendsAreLoads, NamedReadings, named_readings}
 use Rattle.store_file.specs.declared.adding.SeriesErr.TheVariants as refusal
 use Rattle.store_file.specs.declared.store.Stored.{Stored}
 use Rattle.store_file.proofs.AddedLaws.{there}
-use Rattle.store_file.proofs.StoredLaws.{names-series}
 
 -- ---- names and lengths stay
 

@@ -8,7 +8,7 @@ use Rattle.segment.proofs.ShapeLaws.{plan-leaf, plan-fork}
 use Rattle.tree_file.specs.Bytes.{bytes_of, wrapped}
 use Rattle.tree_file.specs.Record.{record_of}
 use Rattle.store_file.specs.StoreValue.{StoreValue, header_of, store_image}
-use Rattle.store_file.specs.Worked.{store_with, turns, six_fields, OneReadingHasBytes, SixFieldsHaveBytes, TurnsHaveBytes}
+use Rattle.store_file.specs.Worked.{store_with, turns, OneReadingHasBytes, SixFieldsHaveBytes, TurnsHaveBytes}
 
 pub one-reading : OneReadingHasBytes
 unfolding store_image header_of record_of bytes_of wrapped flat_of line_of parabola_of miss greatest_estimate greatest_reading plan plan_below

@@ -9,7 +9,7 @@ use Rattle.seg_tree.specs.Grown.{grown_tree}
 use Rattle.seg_tree.specs.Linked.{used}
 use Rattle.store_file.specs.StoreValue.{Series, StoreValue, IsStoreValue, has_name}
 use Rattle.store_file.specs.Stored.{StoreParts, store_value}
-use Rattle.store_file.specs.Added.{names_in, with_series, IsAddable, HasRoom}
+use Rattle.store_file.specs.Added.{names_in, with_series, HasRoom}
 use Rattle.store_file.specs.declared.adding.SeriesErr.{SeriesErr}
 use Rattle.store_file.specs.declared.adding.SeriesErr.TheVariants as refusal
 

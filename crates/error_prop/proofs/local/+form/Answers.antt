@@ -1,5 +1,5 @@
 use Rattle.std.proofs.Common.{arith, rules, ap, sym, subst, ◌∙◌, ◌≡◌, take, drop, length}
-use Rattle.std.specs.Prelude.{◌-ℤ◌, slice_set}
+use Rattle.std.specs.Prelude.{◌-ℤ◌}
 use Rattle.std.proofs.lemmas.Int.{to_z-of_z}
 use mir.Val.{SFits, to_z, of_z}
 use mir.Syntax.{w64, w128}
@@ -8,7 +8,7 @@ use Rattle.semantics.specs.Measures.{names_in}
 use Rattle.semantics.specs.Term.{Term, base, constant, bare, shift}
 use Rattle.bounds.specs.Shape.{constant_shape}
 use Rattle.error_prop.specs.Locals.{CanForm, IsFormed, IsHead}
-use Rattle.error_prop.proofs.Arms.{plus_ready, minus_ready, times_ready, plus_done, minus_done, times_done, times_asks, shift_done, base_weights, constant_formed, bare_formed, AreFormed, AreParts, ProductAsks}
+use Rattle.error_prop.proofs.Arms.{plus_ready, minus_ready, times_ready, plus_done, minus_done, times_done, times_asks, shift_done, constant_formed, bare_formed, AreFormed, AreParts, ProductAsks}
 use Rattle.error_prop.proofs.local.+form.Goals as goal
 
 pub plus_of-head_of-b-requires : goal.plus_of-head_of-b-requires

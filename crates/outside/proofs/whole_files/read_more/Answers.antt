@@ -1,4 +1,4 @@
-use Rattle.std.proofs.Common.{◌≡◌, ◌≤◌, ◌+◌, ◌++◌, ◌∙◌, ℕ, List, length, take, replicate, sym, ap, arith}
+use Rattle.std.proofs.Common.{◌≡◌, ◌≤◌, ◌+◌, ◌∙◌, take, sym, ap, arith}
 use Rattle.outside.proofs.PartLaws.{take-lengthened, take-written}
 use Rattle.outside.proofs.whole_files.read_more.Goals as goal
 

@@ -1,10 +1,10 @@
-use Rattle.std.proofs.Common.{◌≡◌, ◌+◌, ◌-◌, ◌<◌, ◌≤◌, length, take, arith, subst, sym, ap, ◌∙◌, refl}
+use Rattle.std.proofs.Common.{◌≡◌, ◌+◌, ◌-◌, ◌<◌, take, arith, subst, sym, ap, ◌∙◌, refl}
 use Rattle.segment.specs.Shape.{plan, IsSplit}
 use Rattle.segment.specs.Growth.{kept_or_fit}
 use Rattle.segment.specs.Tree.{segs_of}
 use Rattle.segment.proofs.GrowthLaws.{behind_none, behind_all, behind_leaf, behind_parts}
 use Rattle.seg_tree.specs.declared.nodes.Node.{Node}
-use Rattle.seg_tree.specs.Linked.{IsLinked, IsFork, left_child, right_child, node_at}
+use Rattle.seg_tree.specs.Linked.{IsLinked, left_child, right_child, node_at}
 use Rattle.seg_tree.proofs.Extended.{Extends_refl, IsLinked-within, fork_at}
 use Rattle.seg_tree.proofs.GrownTrees.{whole_holds, grown_leaf, grown_fork, new_holds, old_left, old_right, old_holds, old_split, slice_is, slice_long, seg_is, count_slice}
 use Rattle.seg_tree.proofs.growing.+grow_nodes.Goals as goal

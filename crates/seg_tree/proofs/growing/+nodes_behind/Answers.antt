@@ -1,4 +1,4 @@
-use Rattle.std.proofs.Common.{◌≡◌, ◌+◌, ◌-◌, ◌<◌, sym, arith}
+use Rattle.std.proofs.Common.{◌+◌, ◌-◌, sym, arith}
 use Rattle.segment.specs.Shape.{IsSplit}
 use Rattle.segment.proofs.ShapeLaws.{count-plan}
 use Rattle.segment.proofs.GrowthLaws.{behind_none, behind_all, behind_leaf, behind_parts}

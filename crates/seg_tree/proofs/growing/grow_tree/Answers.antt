@@ -1,4 +1,4 @@
-use Rattle.std.proofs.Common.{Some, ◌≡◌, ◌<◌, length, map, arith, ap, ◌∙◌, sym, subst}
+use Rattle.std.proofs.Common.{Some, ◌<◌, length, map, arith, ap, ◌∙◌, sym, subst}
 use Rattle.segment.specs.Growth.{kept_or_fit, behind}
 use Rattle.segment.specs.Shape.{Range, plan}
 use Rattle.segment.specs.declared.segments.Seg.{Seg}

@@ -1,7 +1,7 @@
-use Rattle.std.proofs.Common.{arith, ap, take, ◌∙◌, ◌++◌, length}
+use Rattle.std.proofs.Common.{arith, ap, take, ◌∙◌, ◌++◌}
 use Rattle.segment.specs.Shape.{IsSplit}
 use Rattle.seg_tree.specs.declared.nodes.Node.{Node}
-use Rattle.seg_tree.specs.Linked.{left_child, right_child, IsFork, IsLeaf, kept}
+use Rattle.seg_tree.specs.Linked.{left_child, right_child, kept}
 use Rattle.seg_tree.proofs.Extended.{IsLinked-within, leaf_at, fork_at, readings_leaf, readings_fork}
 use Rattle.seg_tree.proofs.reading.+push_readings.Goals as goal
 

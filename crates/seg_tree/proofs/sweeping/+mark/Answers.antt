@@ -1,7 +1,7 @@
-use Rattle.std.proofs.Common.{◌≡◌, ◌+◌, ◌-◌, ◌<◌, length, map, subst, sym, ap, ◌∙◌, arith}
-use Rattle.segment.specs.Shape.{plan, leaf, fork, IsSplit}
+use Rattle.std.proofs.Common.{◌+◌, ◌-◌, map, subst, sym, ◌∙◌, arith}
+use Rattle.segment.specs.Shape.{plan, IsSplit}
 use Rattle.segment.proofs.ShapeLaws.{plan-leaf, plan-fork}
-use Rattle.seg_tree.specs.Linked.{IsLinked, left_child, right_child, node_at}
+use Rattle.seg_tree.specs.Linked.{IsLinked}
 use Rattle.seg_tree.specs.Slots.{held}
 use Rattle.seg_tree.proofs.Extended.{IsLinked-within, fork_at}
 use Rattle.seg_tree.proofs.SweepLaws.{AreMarked, used-within, marked-before, marked-leaf, marked-fork}

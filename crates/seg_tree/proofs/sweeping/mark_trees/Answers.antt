@@ -1,9 +1,8 @@
-use Rattle.std.proofs.Common.{◌≡◌, ◌+◌, ◌<◌, length, get_or, take, ◌++◌, [], ◌∷◌, ap, sym, subst, ◌∙◌, arith}
+use Rattle.std.proofs.Common.{◌≡◌, ◌+◌, get_or, take, ◌++◌, [], ◌∷◌}
 use Rattle.std.proofs.lemmas.List.{take_more}
-use Rattle.std.proofs.lemmas.List.Elements.{All-get_or}
 use Rattle.segment.specs.Shape.{plan}
 use Rattle.seg_tree.proofs.ReachedNodes.{no_tree}
-use Rattle.seg_tree.proofs.SweepLaws.{AreMarked, TreesMarked, trees-start, trees-skip, trees-more}
+use Rattle.seg_tree.proofs.SweepLaws.{AreMarked, trees-start, trees-skip, trees-more}
 use Rattle.seg_tree.proofs.sweeping.mark_trees.Goals.{in-Some, in_default}
 use Rattle.seg_tree.proofs.sweeping.mark_trees.Goals as goal
 

@@ -1,7 +1,7 @@
-use Rattle.std.proofs.Common.{◌≡◌, ◌+◌, ◌<◌, length, get_or, set, true, false, Some, ap, sym, subst, ◌∙◌, arith}
+use Rattle.std.proofs.Common.{◌≡◌, ◌<◌, length, get_or, ap, sym, ◌∙◌, arith}
 use Rattle.std.proofs.lemmas.List.{get_or_default}
-use Rattle.seg_tree.specs.Slots.{settled, no_slot, mark_of}
-use Rattle.seg_tree.proofs.SweepLaws.{AreSettled, settled-stay, settled-go}
+use Rattle.seg_tree.specs.Slots.{settled, no_slot}
+use Rattle.seg_tree.proofs.SweepLaws.{settled-stay, settled-go}
 use Rattle.seg_tree.proofs.sweeping.settle.Goals.{then-not-stays, else-not-stays}
 use Rattle.seg_tree.proofs.sweeping.settle.Goals as goal
 

@@ -1,5 +1,3 @@
-use Rattle.std.proofs.Common.{◌≡◌, ◌≤◌, ◌^◌, List, ℤ, sym, subst}
-use Rattle.segment.specs.Measure.{greatest_reading, AreReadings, IsBounded}
 use Rattle.segment.proofs.Bounds.{greatest_reading-le, bounded-wide}
 use Rattle.segment.proofs.fitting.fit.Goals as goal
 use Rattle.segment.proofs.fitting.fit.Goals.{in-0, in-1, in_default}

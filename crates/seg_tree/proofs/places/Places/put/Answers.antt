@@ -1,7 +1,6 @@
-use Rattle.std.proofs.Common.{◌≡◌, ◌+◌, ◌<◌, ◌≤◌, ◌-◌, ◌^◌, false, length, map, arith, ap, sym, ◌∙◌, subst, ℕ, vec_len, length-set}
+use Rattle.std.proofs.Common.{◌≡◌, ◌<◌, ◌-◌, ◌^◌, false, length, arith, ap, length-set}
 use Rattle.seg_tree.specs.Held.{Room}
-use Rattle.seg_tree.specs.Linked.{IsPut, used}
-use Rattle.seg_tree.specs.Slots.{held}
+use Rattle.seg_tree.specs.Linked.{used}
 use Rattle.seg_tree.specs.declared.places.Slot.TheVariants.{Used}
 use Rattle.seg_tree.proofs.SlotLaws.{put_at, pushed, used-and_vacant}
 use Rattle.seg_tree.proofs.places.Places.put.Goals as goal

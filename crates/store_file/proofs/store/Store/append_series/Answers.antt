@@ -1,6 +1,6 @@
 use Rattle.std.proofs.Common.{inr}
 use Rattle.store_file.specs.Stored.{StoreParts}
-use Rattle.store_file.proofs.GrownLaws.{TreeGrows, AppendFits, appended, append_refused, handed_on, is-there, sound-grown, unknown, value-grown}
+use Rattle.store_file.proofs.GrownLaws.{appended, append_refused, handed_on, is-there, sound-grown, unknown, value-grown}
 use Rattle.store_file.proofs.store.Store.append_series.Goals as goal
 
 pub returns-in_default-clause-refused : goal.returns-in_default-clause-refused

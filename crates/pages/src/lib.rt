@@ -7,8 +7,9 @@ ghost use Rattle.pages.specs.Pages.{item_at, ArePages};
 use std::alloc::{AllocError, Global};
 use std::marker::Model;
 
-/// A list of items, in pages of 4. Memory for all of them is taken when it is made, but none of it is written for a page
-/// until an item is put there. So a list of which few pages are put costs little, and to put an item takes no memory.
+/// A list of items, in pages of 4. Memory for all of them is taken when it is made, but none of it is written for a
+/// page until an item is put there. So a list of which few pages are put costs little, and to put an item takes no
+/// memory.
 #[derive(Drop)]
 pub struct Pages<T> {
     len: usize,

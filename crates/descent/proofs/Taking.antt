@@ -12,7 +12,6 @@ use Rattle.bounds.specs.Segments.{covers}
 use Rattle.descent.specs.declared.cells.Cells.{Cells}
 use Rattle.descent.specs.declared.kept.KeptSum.{KeptSum}
 use Rattle.descent.specs.declared.readers.Reader.{Reader}
-use Rattle.descent.specs.Again.{ComesAgain}
 use Rattle.descent.specs.Cells.{cells_in, offset_of, AreCells}
 use Rattle.descent.specs.Charges.{AreRecharged}
 use Rattle.descent.specs.Choice.{Has}
@@ -20,7 +19,7 @@ use Rattle.descent.specs.Kept.{AreTiled}
 use Rattle.descent.specs.KeptSums.{IsKeptBut, IsKeptSum}
 use Rattle.descent.specs.Readers.{reader_at, rows_read, track_at, AreReadersOf}
 use Rattle.descent.specs.Rows.{Row, Cut}
-use Rattle.descent.specs.Settled.{lens_of, AreJointsFor, AreReadIn, CanSay, IsInside, IsJointOf, IsKeptBefore, IsOfSum, IsRightAt, IsSameSum, IsSettled, IsShaped}
+use Rattle.descent.specs.Settled.{lens_of, AreJointsFor, AreReadIn, AreRightIn, CanSay, IsInside, IsJointOf, IsKeptBefore, IsOfSum, IsRest, IsRightAt, IsSameSum, IsSettled, IsShaped}
 use Rattle.descent.specs.Sound.{IsSound}
 use Rattle.descent.specs.Sums.{count_of, first_of, range_of}
 use Rattle.descent.proofs.CellLaws.{offsets}
@@ -198,28 +197,9 @@ taken-other now t i row o old new is ne = record {
   ];
 }
 
--- an occurrence that reads the same as a later one
-pub taken-later : (now : Cut) (t : Term) (i : ℕ) (row : Row) (o : ℕ) (old new : KeptSum) → IsTakenTo now t i row o old new → ComesAgain new.readers.items o → IsTakenTo now t i row (o + 1) old new
-taken-later now t i row o old new is again = record {
-  shaped = is.shaped;
-  say = is.say;
-  same = is.same;
-  joints = is.joints;
-  pieces = λ c some. elim (is.pieces c some) [
-    | inr right ↦ inr right
-    | inl left ↦ elim (cases_eq left.p o) [
-      | inl e ↦ let b = again.behind in inl (record {
-        p = again.later;
-        from = omega arith;
-        below = again.below;
-        track = ap (λ (m : Reader). m.track) again.same ∙ subst (λ q. (reader_at new.readers.items q).track ≡ i) e left.track;
-        covered = ap (λ (m : Reader). covers row.seg (m.at +ℤ pos (offset_of new.cells c))) again.same
-            ∙ subst (λ q. covers row.seg ((reader_at new.readers.items q).at +ℤ pos (offset_of new.cells c)) ≡ true) e left.covered;
-      })
-      | inr other ↦ let f = left.from in inl (record { p = left.p; from = omega arith; below = left.below; track = left.track; covered = left.covered })
-    ]
-  ];
-}
+-- nothing is right yet
+pub none-right : (cut : Cut) (t : Term) (k : KeptSum) → AreRightIn cut t k 0 0
+none-right cut t k = record { first = λ some. absurd (omega arith); last = λ some. absurd (omega arith); right = λ c low high some. absurd (omega arith) }
 
 left-after : (i : ℕ) (row : Row) (o from until c : ℕ) (old new : KeptSum) → IsSameSum old new → AreReadIn old.cells (reader_at old.readers.items o).at row.seg from until → c < cells_in old.cells
     → (c < from) ⊎ (until ≤ c) → IsLeftAt i row o old c → IsLeftAt i row (o + 1) new c
@@ -241,9 +221,58 @@ left-after i row o from until c old new same read within out left = elim (cases_
       }
 ]
 
-pub taken-step : (now : Cut) (t : Term) (i : ℕ) (row : Row) (o from until : ℕ) (old mid new : KeptSum) → IsTakenTo now t i row o old mid
-    → AreReadIn mid.cells (reader_at mid.readers.items o).at row.seg from until → IsSettled now t from until mid new → IsTakenTo now t i row (o + 1) old new
-taken-step now t i row o from until old mid new was read is = record {
+-- what is left of the cells that an occurrence reads begins and ends where a piece does
+pub rest-first : (cut : Cut) (t : Term) (k : KeptSum) (from until a b f u : ℕ) → (from < until → 0 < lens_of k from) → until ≤ cells_in k.cells → AreRightIn cut t k a b → IsRest from until a b f u → f < u → 0 < lens_of k f
+rest-first cut t k from until a b f u first within right rest lt =
+    let high = rest.high in
+    let low = rest.low in
+    elim (rest.begins lt) [
+      | inl same ↦ subst (λ c. 0 < lens_of k c) (sym same) (first (omega arith))
+      | inr (some, same) ↦ elim (right.last some) [
+        | inl end ↦ absurd (omega arith)
+        | inr piece ↦ subst (λ c. 0 < lens_of k c) (sym same) piece
+      ]
+    ]
+
+pub rest-last : (cut : Cut) (t : Term) (k : KeptSum) (from until a b f u : ℕ) → (from < until → IsJointOf k until) → AreRightIn cut t k a b → IsRest from until a b f u → f < u → IsJointOf k u
+rest-last cut t k from until a b f u last right rest lt =
+    let high = rest.high in
+    let low = rest.low in
+    elim (rest.ends lt) [
+      | inl same ↦ subst (IsJointOf k) (sym same) (last (omega arith))
+      | inr (some, same) ↦ subst (IsJointOf k) (sym same) (inr (right.first some))
+    ]
+
+right-in : (now : Cut) (t : Term) (mid new : KeptSum) (from until a b f u : ℕ) → IsShaped now t mid → AreRightIn now t mid a b → IsRest from until a b f u → IsSettled now t f u mid new
+    → (c : ℕ) → from ≤ c → c < until → 0 < lens_of new c → IsRightAt now t new c
+right-in now t mid new from until a b f u shaped right rest is c low high some = elim (cases_lt c f) [
+  | inl before ↦ beside (inl before) (rest.before c low before)
+  | inr ge ↦ elim (cases_lt c u) [
+    | inl inner ↦ is.right c ge inner some
+    | inr behind ↦ beside (inr behind) (rest.behind c behind high)
+  ]
+]
+  where
+    beside : (c < f) ⊎ (u ≤ c) → (a ≤ c) × (c < b) → IsRightAt now t new c
+    beside out there =
+        let at = is.others c out in
+        let e = at.lens in
+        right-same now t mid new c is.same at (right.right c there.0 there.1 (omega arith))
+
+pub taken-right : (now : Cut) (t : Term) (i : ℕ) (row : Row) (o from until a b f u : ℕ) (old mid new : KeptSum) → IsTakenTo now t i row o old mid → o < length mid.readers.items → (reader_at mid.readers.items o).track ≡ i
+    → AreReadIn mid.cells (reader_at mid.readers.items o).at row.seg from until → AreRightIn now t mid a b → IsRest from until a b f u → IsSettled now t f u mid new → AreRightIn now t new from until
+taken-right now t i row o from until a b f u old mid new was below track read right rest is = record {
+  first = λ some. is.joints from ((was.joints o below track).first from until read some);
+  last = λ some. elim ((was.joints o below track).last from until read some) [
+    | inl end ↦ inl (end ∙ ap cells_in (sym is.same.cells))
+    | inr piece ↦ inr (is.joints until piece)
+  ];
+  right = right-in now t mid new from until a b f u was.shaped right rest is;
+}
+
+pub taken-step : (now : Cut) (t : Term) (i : ℕ) (row : Row) (o from until a b f u : ℕ) (old mid new : KeptSum) → IsTakenTo now t i row o old mid
+    → AreReadIn mid.cells (reader_at mid.readers.items o).at row.seg from until → AreRightIn now t mid a b → IsRest from until a b f u → IsSettled now t f u mid new → IsTakenTo now t i row (o + 1) old new
+taken-step now t i row o from until a b f u old mid new was read right rest is = record {
   shaped = is.shaped;
   say = say-same now t mid new is.same was.say;
   same = same-sums old mid new was.same is.same;
@@ -251,25 +280,28 @@ taken-step now t i row o from until old mid new was read is = record {
   pieces = pieces;
 }
   where
-    outside : (c : ℕ) → (c < from) ⊎ (until ≤ c) → 0 < lens_of new c → IsLeftAt i row (o + 1) new c ⊎ IsRightAt now t new c
-    outside c out some =
-        let at = is.others c out in
+    outside : (c : ℕ) → (c < from) ⊎ (until ≤ c) → (c < f) ⊎ (u ≤ c) → 0 < lens_of new c → IsLeftAt i row (o + 1) new c ⊎ IsRightAt now t new c
+    outside c out beside some =
+        let at = is.others c beside in
         let e = at.lens in
         let was-some : 0 < lens_of mid c = omega arith in
         let w = (was.shaped.tiled.each c was-some).within in
         elim (was.pieces c was-some) [
-          | inr right ↦ inr (right-same now t mid new c is.same at right)
+          | inr same ↦ inr (right-same now t mid new c is.same at same)
           | inl left ↦ inl (left-after i row o from until c mid new is.same read (omega arith) out left)
         ]
 
     pieces : (c : ℕ) → 0 < lens_of new c → IsLeftAt i row (o + 1) new c ⊎ IsRightAt now t new c
-    pieces c some = elim (cases_lt c from) [
-      | inl before ↦ outside c (inl before) some
-      | inr low ↦ elim (cases_lt c until) [
-        | inl high ↦ inr (is.right c low high some)
-        | inr behind ↦ outside c (inr behind) some
-      ]
-    ]
+    pieces c some =
+        let low = rest.low in
+        let high = rest.high in
+        elim (cases_lt c from) [
+          | inl before ↦ outside c (inl before) (inl (omega arith)) some
+          | inr ge ↦ elim (cases_lt c until) [
+            | inl inner ↦ inr (right-in now t mid new from until a b f u was.shaped right rest is c ge inner some)
+            | inr behind ↦ outside c (inr behind) (inr (omega arith)) some
+          ]
+        ]
 
 -- ---- the first, and the last
 

@@ -1,4 +1,3 @@
-pub mod Again
 pub mod Rows
 pub mod Sums
 pub mod Choice

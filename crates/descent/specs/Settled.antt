@@ -125,6 +125,22 @@ pub record AreJointsFor (k : KeptSum) (o : ℕ) (s : Seg) : Type 0 where
   pub last : (from until : ℕ) → AreReadIn k.cells (reader_at k.readers.items o).at s from until → from < until
       → IsJointOf k until
 
+-- the pieces of a range of cells are right, and it begins and ends where a piece does
+pub record AreRightIn (cut : Cut) (t : Term) (k : KeptSum) (from until : ℕ) : Type 0 where
+  pub first : from < until → 0 < lens_of k from
+  pub last : from < until → IsJointOf k until
+  pub right : (c : ℕ) → from ≤ c → c < until → 0 < lens_of k c → IsRightAt cut t k c
+
+-- a part of a range of cells, beside which all of it is in another one
+pub record IsRest (from until other_from other_until rest_from rest_until : ℕ) : Type 0 where
+  pub low : from ≤ rest_from
+  pub order : rest_from ≤ rest_until
+  pub high : rest_until ≤ until
+  pub begins : rest_from < rest_until → (rest_from ≡ from) ⊎ ((other_from < other_until) × (rest_from ≡ other_until))
+  pub ends : rest_from < rest_until → (rest_until ≡ until) ⊎ ((other_from < other_until) × (rest_until ≡ other_from))
+  pub before : (c : ℕ) → from ≤ c → c < rest_from → (other_from ≤ c) × (c < other_until)
+  pub behind : (c : ℕ) → rest_until ≤ c → c < until → (other_from ≤ c) × (c < other_until)
+
 -- ---- a change that is to be taken over
 
 -- what is kept of a sum was right before a row of the i-th track gave way

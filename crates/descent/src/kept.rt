@@ -18,7 +18,7 @@ ghost use Rattle.descent.specs.Laid.{held};
 ghost use Rattle.descent.specs.Readers.{reader_at};
 ghost use Rattle.descent.specs.Rows.{Cut};
 ghost use Rattle.descent.specs.Said.{AllStay};
-ghost use Rattle.descent.specs.Settled.{lens_of, AreAtBorders, AreJointsFor, AreReadIn, CanBeCharged, CanBeRead, CanSay, HasOtherWeights, IsJointOf, IsKeptBefore, IsOfSum, IsRightAt, IsSameAt, IsSameSum, IsSettled, IsShaped, IsTrimmed};
+ghost use Rattle.descent.specs.Settled.{lens_of, AreAtBorders, AreJointsFor, AreReadIn, AreRightIn, CanBeCharged, CanBeRead, CanSay, HasOtherWeights, IsJointOf, IsKeptBefore, IsOfSum, IsRest, IsRightAt, IsSameAt, IsSameSum, IsSettled, IsShaped, IsTrimmed};
 ghost use Rattle.descent.specs.Sound.{IsSound};
 
 use crate::cells::Cells;
@@ -27,7 +27,7 @@ use crate::choosing::range_of_sum;
 use crate::cuts::Change;
 use crate::estimates::Estimates;
 use crate::frames::facts_of;
-use crate::readers::{Reader, cells_for, comes_again, position_of, readers_of};
+use crate::readers::{Reader, cells_for, position_of, readers_of};
 use crate::said::{say, stretch};
 use crate::tables::Table;
 use expr::{Bounds, Series};
@@ -66,6 +66,21 @@ fn cells_read(cells: &Cells, reader: &Reader, seg: &Seg) -> (usize, usize)
     let from = cells.border(reader, seg.start);
     let until = cells.border(reader, seg.start + seg.len);
     (from, until)
+}
+
+/// What is left of a range of cells without those of another one; all of it where what is left would be in two parts.
+fn rest_of(cells: (usize, usize), other: (usize, usize)) -> (usize, usize)
+    requires { cells.0 ≤ cells.1 }
+    ensures { IsRest cells.0 cells.1 other.0 other.1 result.0 result.1 }
+{
+    let (from, until) = cells;
+    if other.0 <= from && from < other.1 {
+        return (other.1.min(until), until);
+    }
+    if from < other.0 && other.0 < until && until <= other.1 {
+        return (from, other.0);
+    }
+    cells
 }
 
 /// The greatest of an occurrence's weights at the cells that it reads in a segment.
@@ -404,7 +419,8 @@ impl KeptSum {
         }
     }
 
-    /// What an occurrence reads of the positions of a segment is put right.
+    /// What an occurrence reads of the positions of a segment is put right, but for a range of cells that is right.
+    /// Answers the cells that the occurrence reads.
     fn settle_in<I: Copy>(
         &mut self,
         alloc: Global,
@@ -412,18 +428,23 @@ impl KeptSum {
         tables: &[Table<I>],
         o: usize,
         seg: &Seg,
-    ) -> Result<(), Memory>
+        right: (usize, usize),
+    ) -> Result<(usize, usize), Memory>
         requires say { CanSay (shown tables.now) (term_of t.now) self.old }
         requires shaped { IsShaped (shown tables.now) (term_of t.now) self.old }
         requires occurrence { o < length self.old.readers.items }
         requires within { seg.now.start + seg.now.len ≤ 2 ^ 20 }
         requires joints { AreJointsFor self.old o seg.now }
-        ensures { OnOk result ((from until : ℕ)
-            × AreReadIn self.old.cells (reader_at self.old.readers.items o).at seg.now from until
+        requires right { AreRightIn (shown tables.now) (term_of t.now) self.old right.0 right.1 }
+        ensures read { IfOk result (λ cells. AreReadIn self.old.cells (reader_at self.old.readers.items o).at seg.now
+            cells.0 cells.1) }
+        ensures settled { IfOk result (λ cells. (from until : ℕ) × IsRest cells.0 cells.1 right.0 right.1 from until
             × IsSettled (shown tables.now) (term_of t.now) from until self.old self.new) }
     {
-        let (from, until) = cells_read(&self.cells, &self.readers[o], seg);
-        self.settle(alloc, t, tables, from, until)
+        let cells = cells_read(&self.cells, &self.readers[o], seg);
+        let (from, until) = rest_of(cells, right);
+        self.settle(alloc, t, tables, from, until)?;
+        Ok(cells)
     }
 
     /// What is kept is made that of the rows as they are, where it was right before one of them gave way.
@@ -440,14 +461,12 @@ impl KeptSum {
             (shown tables.now) (term_of t.now) s self.old → IsKeptSum (shown tables.now) s self.new) }
     {
         self.charge_anew(tables, change);
+        let mut right = (0, 0);
         for o in 0..self.readers.len() {
             if self.readers[o].track as usize != change.table {
                 continue;
             }
-            if comes_again(self.readers.as_slice(), o) {
-                continue;
-            }
-            self.settle_in(alloc, t, tables, o, &change.row.seg)?;
+            right = self.settle_in(alloc, t, tables, o, &change.row.seg, right)?;
         }
         Ok(())
     }

@@ -5,7 +5,6 @@ ghost use Rattle.semantics.specs.Admission.{SumTerm};
 ghost use Rattle.semantics.specs.Limits.{series_depth, IsNearSeries};
 ghost use Rattle.expr.specs.Terms.{term_of};
 ghost use Rattle.bounds.specs.Cut.{occurrences};
-ghost use Rattle.descent.specs.Again.{ComesAgain};
 ghost use Rattle.descent.specs.Cells.{AreCells};
 ghost use Rattle.descent.specs.Held.{shown};
 ghost use Rattle.descent.specs.declared.readers.Reader.{Reader};
@@ -20,7 +19,7 @@ use num_text::Memory;
 use std::alloc::{AllocError, Global};
 
 /// An occurrence of a series: at an offset it reads its track at the offset plus `at`.
-#[derive(Clone, Copy, Debug, Drop, PartialEq, Eq)]
+#[derive(Clone, Copy, Debug, Drop)]
 pub(crate) struct Reader {
     pub(crate) track: u32,
     pub(crate) at: i64,
@@ -104,19 +103,6 @@ pub(crate) fn readers_of<I: Copy>(
     let mut readers = Vec::new(alloc);
     put_readers(&mut readers, t, tables, first)?;
     Ok(readers)
-}
-
-/// Whether a later occurrence reads the same as one, so that what is put right for it is right for both.
-pub(crate) fn comes_again(readers: &[Reader], o: usize) -> bool
-    requires { o < length readers.now }
-    ensures { result ≡ true → ComesAgain readers.now o }
-{
-    for later in o + 1..readers.len() {
-        if readers[later] == readers[o] {
-            return true;
-        }
-    }
-    false
 }
 
 /// Where a reader reads the first offset.

@@ -142,7 +142,10 @@ fn say_same<I: Copy>(
 {
     gather(segs, tables, readers, offset)?;
     let start = moved_up(first, offset);
-    let m = local_form(alloc, t, start, len, segs.as_slice())?;
+    let formed = local_form(alloc, t, start, len, segs.as_slice());
+    let Ok(m) = &formed else {
+        return Err(Memory);
+    };
     raise(weights, m.weights.as_slice());
     let total = sum_over(&m.poly, len);
     Ok(total)

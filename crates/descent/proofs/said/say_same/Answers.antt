@@ -14,8 +14,8 @@ use Rattle.descent.specs.Held.{shown}
 use Rattle.descent.proofs.SayLaws.{same-covered, same-in-range, same-most, same-sums-up, same-total, AreSame}
 use Rattle.descent.proofs.said.say_same.Goals as goal
 
-pub local_form-requires-clause-covered : goal.local_form-requires-clause-covered
-local_form-requires-clause-covered g c =
+pub local_form-formed-requires-clause-covered : goal.local_form-formed-requires-clause-covered
+local_form-formed-requires-clause-covered g c =
     let cut = shown c.args.tables.now in
     let t = term_of c.args.t.now in
     let l = c.args.first in
@@ -30,8 +30,8 @@ local_form-requires-clause-covered g c =
     let e : to_z w64 (of_z w64 c.moved_up-start.result) ≡ l +ℤ pos offset = to_z-of_z w64 c.moved_up-start.result fs ∙ c.moved_up-start.ensures ∙ ap (λ (z : ℤ). z +ℤ pos offset) (to_z-of_z w64 l fl) in
     subst (λ i. AreCovered t gs i len) (sym e) (same-covered cut s t l rs offset len gs h)
 
-pub local_form-requires-clause-in_range : goal.local_form-requires-clause-in_range
-local_form-requires-clause-in_range g c =
+pub local_form-formed-requires-clause-in_range : goal.local_form-formed-requires-clause-in_range
+local_form-formed-requires-clause-in_range g c =
     let cut = shown c.args.tables.now in
     let t = term_of c.args.t.now in
     let l = c.args.first in
@@ -60,8 +60,8 @@ raise-requires g c =
     let fl : SFits w64 l = c.ranges.first in
     let fs : SFits w64 c.moved_up-start.result = search rules in
     let e : to_z w64 (of_z w64 c.moved_up-start.result) ≡ l +ℤ pos offset = to_z-of_z w64 c.moved_up-start.result fs ∙ c.moved_up-start.ensures ∙ ap (λ (z : ℤ). z +ℤ pos offset) (to_z-of_z w64 l fl) in
-    let m = c.in_ok-m.m in
-    let k : IsLocalOf m len t gs (l +ℤ pos offset) = subst (λ i. IsLocalOf m len t gs i) e c.in_ok-m.ensures.local in
+    let m = c.in-Ok.m in
+    let k : IsLocalOf m len t gs (l +ℤ pos offset) = subst (λ i. IsLocalOf m len t gs i) e (rw c.in-Ok.is at c.local_form-formed.ensures.local) in
     c.requires.count ∙ sym (ap length (c.as_slice-2.ensures ∙ k.weights) ∙ length-weights t gs)
 
 pub sum_over-total-requires-clause-fewer : goal.sum_over-total-requires-clause-fewer
@@ -78,9 +78,9 @@ sum_over-total-requires-clause-fewer g c =
     let fl : SFits w64 l = c.ranges.first in
     let fs : SFits w64 c.moved_up-start.result = search rules in
     let e : to_z w64 (of_z w64 c.moved_up-start.result) ≡ l +ℤ pos offset = to_z-of_z w64 c.moved_up-start.result fs ∙ c.moved_up-start.ensures ∙ ap (λ (z : ℤ). z +ℤ pos offset) (to_z-of_z w64 l fl) in
-    let m = c.in_ok-m.m in
-    let k : IsLocalOf m len t gs (l +ℤ pos offset) = subst (λ i. IsLocalOf m len t gs i) e c.in_ok-m.ensures.local in
-    let within = λ (D : List ℕ → ℕ) (n : ℕ) (sane : AreSane D n t gs (l +ℤ pos offset)). c.in_ok-m.ensures.magnitudes D n (subst (λ i. AreSane D n t gs i) (sym e) sane) in
+    let m = c.in-Ok.m in
+    let k : IsLocalOf m len t gs (l +ℤ pos offset) = subst (λ i. IsLocalOf m len t gs i) e (rw c.in-Ok.is at c.local_form-formed.ensures.local) in
+    let within = λ (D : List ℕ → ℕ) (n : ℕ) (sane : AreSane D n t gs (l +ℤ pos offset)). (rw c.in-Ok.is at c.local_form-formed.ensures.magnitudes) D n (subst (λ i. AreSane D n t gs i) (sym e) sane) in
     let u : SumsUp m.poly.c len = same-sums-up cut s t l rs offset len gs m h k within in
     u.fewer
 
@@ -98,9 +98,9 @@ sum_over-total-requires-clause-small g c =
     let fl : SFits w64 l = c.ranges.first in
     let fs : SFits w64 c.moved_up-start.result = search rules in
     let e : to_z w64 (of_z w64 c.moved_up-start.result) ≡ l +ℤ pos offset = to_z-of_z w64 c.moved_up-start.result fs ∙ c.moved_up-start.ensures ∙ ap (λ (z : ℤ). z +ℤ pos offset) (to_z-of_z w64 l fl) in
-    let m = c.in_ok-m.m in
-    let k : IsLocalOf m len t gs (l +ℤ pos offset) = subst (λ i. IsLocalOf m len t gs i) e c.in_ok-m.ensures.local in
-    let within = λ (D : List ℕ → ℕ) (n : ℕ) (sane : AreSane D n t gs (l +ℤ pos offset)). c.in_ok-m.ensures.magnitudes D n (subst (λ i. AreSane D n t gs i) (sym e) sane) in
+    let m = c.in-Ok.m in
+    let k : IsLocalOf m len t gs (l +ℤ pos offset) = subst (λ i. IsLocalOf m len t gs i) e (rw c.in-Ok.is at c.local_form-formed.ensures.local) in
+    let within = λ (D : List ℕ → ℕ) (n : ℕ) (sane : AreSane D n t gs (l +ℤ pos offset)). (rw c.in-Ok.is at c.local_form-formed.ensures.magnitudes) D n (subst (λ i. AreSane D n t gs i) (sym e) sane) in
     let u : SumsUp m.poly.c len = same-sums-up cut s t l rs offset len gs m h k within in
     u.small
 
@@ -118,8 +118,8 @@ returns-clause-estimate g c =
     let fl : SFits w64 l = c.ranges.first in
     let fs : SFits w64 c.moved_up-start.result = search rules in
     let e : to_z w64 (of_z w64 c.moved_up-start.result) ≡ l +ℤ pos offset = to_z-of_z w64 c.moved_up-start.result fs ∙ c.moved_up-start.ensures ∙ ap (λ (z : ℤ). z +ℤ pos offset) (to_z-of_z w64 l fl) in
-    let m = c.in_ok-m.m in
-    let k : IsLocalOf m len t gs (l +ℤ pos offset) = subst (λ i. IsLocalOf m len t gs i) e c.in_ok-m.ensures.local in
+    let m = c.in-Ok.m in
+    let k : IsLocalOf m len t gs (l +ℤ pos offset) = subst (λ i. IsLocalOf m len t gs i) e (rw c.in-Ok.is at c.local_form-formed.ensures.local) in
     let ft : SFits w128 c.sum_over-total.result = search rules in
     to_z-of_z w128 c.sum_over-total.result ft ∙ c.sum_over-total.ensures.value ∙ same-total cut s t l rs offset len gs m h k
 
@@ -137,8 +137,8 @@ returns-clause-weights g c =
     let fl : SFits w64 l = c.ranges.first in
     let fs : SFits w64 c.moved_up-start.result = search rules in
     let e : to_z w64 (of_z w64 c.moved_up-start.result) ≡ l +ℤ pos offset = to_z-of_z w64 c.moved_up-start.result fs ∙ c.moved_up-start.ensures ∙ ap (λ (z : ℤ). z +ℤ pos offset) (to_z-of_z w64 l fl) in
-    let m = c.in_ok-m.m in
-    let k : IsLocalOf m len t gs (l +ℤ pos offset) = subst (λ i. IsLocalOf m len t gs i) e c.in_ok-m.ensures.local in
+    let m = c.in-Ok.m in
+    let k : IsLocalOf m len t gs (l +ℤ pos offset) = subst (λ i. IsLocalOf m len t gs i) e (rw c.in-Ok.is at c.local_form-formed.ensures.local) in
     let ws = c.as_slice-2.result.now in
     let wk : ws ≡ (shape t gs).weights = c.as_slice-2.ensures ∙ k.weights in
     let count : length ws ≡ names_in t = ap length wk ∙ length-weights t gs in

@@ -290,6 +290,7 @@ impl KeptSum {
         t: &Series,
         tables: &[Table<I>],
         c: usize,
+        segs: &mut Vec<Seg>,
     ) -> Result<(), Memory>
         requires say { CanSay (shown tables.now) (term_of t.now) self.old }
         requires shaped { IsShaped (shown tables.now) (term_of t.now) self.old }
@@ -313,6 +314,7 @@ impl KeptSum {
             readers,
             from,
             len,
+            segs,
             weights.as_mut_slice(),
         )?;
         self.estimates.put(c, estimate);
@@ -337,9 +339,10 @@ impl KeptSum {
         requires ends { from < until → IsJointOf self.old until }
         ensures { OnOk result (IsSettled (shown tables.now) (term_of t.now) from until self.old self.new) }
     {
+        let mut segs = Vec::new(alloc);
         let mut c = from;
         while c < until {
-            self.settle_at(alloc, t, tables, c)?;
+            self.settle_at(alloc, t, tables, c, &mut segs)?;
             c += self.lens[c] as usize;
         }
         Ok(())

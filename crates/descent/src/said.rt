@@ -153,7 +153,7 @@ fn say_same<I: Copy>(
 
 /// The estimate of a piece, and the greatest weight of each occurrence there, which `weights` gets.
 ///
-/// Where a row is opened the piece is gone over position by position.
+/// Where a row is opened the piece is gone over position by position. `segs` is room for the segments that are read.
 pub(crate) fn say<I: Copy>(
     alloc: Global,
     t: &Series,
@@ -162,6 +162,7 @@ pub(crate) fn say<I: Copy>(
     readers: &[Reader],
     from: u64,
     n: u64,
+    segs: &mut Vec<Seg>,
     weights: &mut [u128],
 ) -> Result<i128, Memory>
     requires read { (s : SumTerm) × AreRead (shown tables.now) s (term_of t.now) first readers.now from n }
@@ -170,11 +171,10 @@ pub(crate) fn say<I: Copy>(
     ensures { IfOk result (λ e. IsSaid (shown tables.now) (term_of t.now) first from n e
         (λ o. slice_index weights.new o)) }
 {
-    let mut segs = Vec::new(alloc);
     weights.fill(0);
     if all_closed(tables, readers, from) {
         return say_same(
-            alloc, t, first, tables, readers, from, n, &mut segs, weights,
+            alloc, t, first, tables, readers, from, n, segs, weights,
         );
     }
     let mut estimate = 0;
@@ -187,7 +187,7 @@ pub(crate) fn say<I: Copy>(
             readers,
             from + i,
             1,
-            &mut segs,
+            segs,
             weights,
         )?;
         estimate = plus(estimate, part);

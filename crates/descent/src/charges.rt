@@ -31,7 +31,7 @@ impl Model for Charges {
 impl Charges {
     /// So many zeros at least.
     pub(crate) fn zeros(alloc: Global, count: usize) -> Result<Charges, AllocError>
-        requires { count ≤ 2 ^ 40 }
+        requires { count ≤ 2 ^ 28 }
         ensures enough { IfOk result (λ c. count ≤ length c) }
         ensures zeros { IfOk result (λ c. c ≡ replicate (length c) 0) }
     {

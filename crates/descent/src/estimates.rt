@@ -32,7 +32,7 @@ impl Model for Estimates {
 
 impl Estimates {
     pub(crate) fn zeros(alloc: Global, count: usize) -> Result<Estimates, AllocError>
-        requires { count ≤ 2 ^ 40 }
+        requires { count ≤ 2 ^ 28 }
         ensures { IfOk result (λ e. e ≡ replicate count (pos 0)) }
     {
         let items = Pages::filled(alloc, count, 0)?;

@@ -1,5 +1,5 @@
 -- Items in pages of 4, of which those that nothing was put in stand together.
-use Rattle.std.specs.Prelude.{◌≡◌, ℕ, zero, suc, ◌+◌, ◌*◌, ◌/◌, ◌%◌, ◌<◌, ◌≤◌, List, [], ◌∷◌, length, map, get_or, box_value, vec_capacity}
+use Rattle.std.specs.Prelude.{◌≡◌, ℕ, zero, suc, ◌+◌, ◌*◌, ◌/◌, ◌%◌, ◌^◌, ◌<◌, ◌≤◌, List, [], ◌∷◌, length, map, get_or, box_value, vec_capacity}
 use Rattle.std.specs.List.{range_with_len}
 use Rattle.pages.specs.declared.Pages.TheInside.{Inside}
 
@@ -23,6 +23,7 @@ pub record ArePages {T : Type 0} (numbers : List ℕ) (items : List T) (blank : 
 pub record IsPaged {T : Type 0} (p : Inside T) : Type 0 where
   pub pages : ArePages p.numbers.items p.items.items (box_value p.blank)
   pub enough : p.len ≤ 4 * length p.numbers.items
+  pub few : length p.numbers.items ≤ 2 ^ 30
   pub room : 4 * (1 + length p.numbers.items) ≤ vec_capacity p.items
 
 abbrev pub view_of : {T : Type 0} → Inside T → List T

@@ -9,14 +9,14 @@ use std::marker::Model;
 
 /// A list of items, in pages of 4. Memory for all of them is taken when it is made, but none of it is written for a
 /// page until an item is put there. So a list of which few pages are put costs little, and to put an item takes no
-/// memory.
+/// memory. There are at most 2^32 items.
 #[derive(Drop)]
 pub struct Pages<T> {
     len: usize,
     /// What each item is until another one is put. It is boxed so that all lists take the same room.
     blank: Box<T>,
     /// Where the items of each page stand, in pages. At 0 are those of all pages where nothing was put.
-    numbers: Vec<usize>,
+    numbers: Vec<u32>,
     items: Vec<T>,
 }
 
@@ -33,9 +33,10 @@ impl<T> Model for Pages<T> {
 }
 
 /// Where the items of a page stand. They get a place of their own if they have none.
-fn page_for<T: Copy>(numbers: &mut Vec<usize>, items: &mut Vec<T>, page: usize, blank: T) -> usize
+fn page_for<T: Copy>(numbers: &mut Vec<u32>, items: &mut Vec<T>, page: usize, blank: T) -> usize
     requires pages { ArePages numbers.old.items items.old.items blank }
     requires within { page < length numbers.old.items }
+    requires few { length numbers.old.items ≤ 2 ^ 30 }
     requires room { 4 * (1 + length numbers.old.items) ≤ vec_capacity items.old }
     ensures pages { ArePages numbers.new.items items.new.items blank }
     ensures number { result ≡ slice_index numbers.new.items page }
@@ -47,24 +48,24 @@ fn page_for<T: Copy>(numbers: &mut Vec<usize>, items: &mut Vec<T>, page: usize, 
     ensures room { 4 * (1 + length numbers.new.items) ≤ vec_capacity items.new }
 {
     if numbers[page] > 0 {
-        return numbers[page];
+        return numbers[page] as usize;
     }
     let number = items.len() / 4;
     let Ok(()) = items.resize(4 * (number + 1), blank) else {
         unreachable!()
     };
-    numbers[page] = number;
+    numbers[page] = number as u32;
     number
 }
 
 impl<T: Copy> Pages<T> {
     /// So many items that are all the same.
     pub fn filled(alloc: Global, len: usize, blank: T) -> Result<Pages<T>, AllocError>
-        requires { len ≤ 2 ^ 60 }
+        requires { len ≤ 2 ^ 32 }
         ensures { IfOk result (λ p. p ≡ replicate len blank) }
     {
         let pages = len.div_ceil(4);
-        let numbers = vec![in alloc; 0usize; pages]?;
+        let numbers = vec![in alloc; 0u32; pages]?;
         let mut items = Vec::with_capacity(alloc, 4 * (pages + 1))?;
         let Ok(()) = items.resize(4, blank) else {
             unreachable!()
@@ -97,7 +98,7 @@ impl<T: Copy> Pages<T> {
         requires { at < length self.now }
         ensures { result.now ≡ slice_index_or self.now at result.now }
     {
-        &self.items[4 * self.numbers[at / 4] + at % 4]
+        &self.items[4 * self.numbers[at / 4] as usize + at % 4]
     }
 
     /// Puts an item at a place.

@@ -1,7 +1,13 @@
 use Rattle.std.proofs.Common.{◌≡◌, ◌+◌, ◌*◌, ◌/◌, ◌<◌, get_or, vec_capacity, refl, arith}
 use Rattle.std.proofs.lemmas.List.{get_or_default}
-use Rattle.pages.proofs.Laws.{owned-less, next-items, next-pages, IsLonger}
+use Rattle.pages.proofs.Laws.{owned-le, owned-less, next-items, next-pages, IsLonger}
 use Rattle.pages.proofs.page_for.Goals as goal
+
+pub overflow_cast-number : goal.overflow_cast-number
+overflow_cast-number g c =
+    let few = owned-le c.args.numbers.now.items in
+    let ok = c.args.items.now.ok in
+    omega (arith, c.requires.pages.full, c.requires.few, c.len-number.ensures)
 
 pub unreachable-requires : goal.unreachable-requires
 unreachable-requires g c =

@@ -21,6 +21,7 @@ invariant_of-result g c =
     record {
       pages = rw (numbers, items, boxed) (first-pages n c.args.blank);
       enough = omega arith;
+      few = omega arith;
       room = omega arith;
     }
 

@@ -22,6 +22,7 @@ invariant_of-self g c =
       pages = put-pages c.page_for-number.new.numbers.items c.page_for-number.new.items.items (box_value p.blank) c.args.item place
           (subst (ArePages c.page_for-number.new.numbers.items c.page_for-number.new.items.items) lent e.pages) (omega (arith, e.own));
       enough = omega (arith, e.count, c.self.invariant.enough);
+      few = omega (arith, e.count, c.self.invariant.few);
       room = e.room;
     }
 

@@ -113,7 +113,8 @@ abbrev pub cut_under : Data → Option (List CertList)
 cut_under d = option_and_then lists_of (get (codes "cut") d)
 
 -- the first key that is missing or not in its form, in their order; then a further key
-abbrev pub certificate_from : Option ℕ → Option (List CertList) → Option ℤ → Option ℤ → Option (List ℕ) → ℕ → Result Cert CertErr
+abbrev pub certificate_from : Option ℕ → Option (List CertList) → Option ℤ → Option ℤ → Option (List ℕ) → ℕ
+    → Result Cert CertErr
 certificate_from None cut hi lo query keys = Err (Form Budget)
 certificate_from (Some budget) None hi lo query keys = Err (Form Cut)
 certificate_from (Some budget) (Some cut) None lo query keys = Err (Form Hi)

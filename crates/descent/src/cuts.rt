@@ -197,7 +197,8 @@ impl<I: Copy> Cut<I> {
         Ok(out)
     }
 
-    /// The interval of the query, and the row that is to give way in the next step, as `interval` and `choose` answer them.
+    /// The interval of the query, and the row that is to give way in the next step, as `interval` and `choose` answer
+    /// them.
     pub(crate) fn look(&mut self, q: &Query) -> Result<(QueryOut, Option<Pick>), Memory>
         requires query { self.old.query ≡ spelled (query_term_of q.now) }
         requires plain { IsPlain (query_term_of q.now) }

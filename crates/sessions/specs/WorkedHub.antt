@@ -38,7 +38,8 @@ pub record HubsAreWorked : Type 0 where
       ∷ Done 0 (between 80 240) ∷ Closed 0 ∷ SlotFree 0 ∷ []
   -- two sessions in turn
   pub in_turn : replies hub (moment (OpenSlot 0 0 whole) ∷ moment (OpenSlot 1 200 whole) ∷ moment (StepSlot 0)
-      ∷ moment (StepSlot 1) ∷ moment (StepSlot 1) ∷ moment (StepSlot 0) ∷ moment (StepSlot 0) ∷ moment (ShowSlot 1) ∷ [])
+      ∷ moment (StepSlot 1) ∷ moment (StepSlot 1) ∷ moment (StepSlot 0) ∷ moment (StepSlot 0) ∷ moment (ShowSlot 1)
+      ∷ [])
       ≡ Opened 0 (between 0 320) ∷ Opened 1 (between 0 320) ∷ Now 0 (between 0 320) ∷ Now 1 (between 0 320)
       ∷ Done 1 (between 80 240) ∷ Now 0 (between 80 240) ∷ Done 0 (between 160 160) ∷ Done 1 (between 80 240) ∷ []
   -- what is refused, and what does nothing

@@ -79,7 +79,8 @@ is_found (Err r) = false
 abbrev pub query_reads : QueryCommand → Bool
 query_reads c = is_found (query_in c.text)
 
--- the line of the interval of the query over the store; over parts of a file that stands for none, that of some interval
+-- the line of the interval of the query over the store; over parts of a file that stands for none, that of some
+-- interval
 abbrev pub AnswersAsked : ℕ → Option Asked → List ℕ → Type 0
 AnswersAsked budget None text = (iv : Interval) × (nodes opened : ℕ)
     × (text ≡ answer_line iv.lo iv.hi (width_of iv) nodes opened)

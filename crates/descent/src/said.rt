@@ -173,23 +173,11 @@ pub(crate) fn say<I: Copy>(
 {
     weights.fill(0);
     if all_closed(tables, readers, from) {
-        return say_same(
-            alloc, t, first, tables, readers, from, n, segs, weights,
-        );
+        return say_same(alloc, t, first, tables, readers, from, n, segs, weights);
     }
     let mut estimate = 0;
     for i in 0..n {
-        let part = say_same(
-            alloc,
-            t,
-            first,
-            tables,
-            readers,
-            from + i,
-            1,
-            segs,
-            weights,
-        )?;
+        let part = say_same(alloc, t, first, tables, readers, from + i, 1, segs, weights)?;
         estimate = plus(estimate, part);
     }
     Ok(estimate)

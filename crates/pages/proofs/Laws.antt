@@ -49,7 +49,7 @@ owned-zeros (suc n) = owned-zeros n
 pub zeros-length : (n : ℕ) → length (replicate n zero) ≡ n
 zeros-length n = length-replicate n zero
 
-zeros : (n k : ℕ) → get_or (replicate n zero) k zero ≡ zero
+pub zeros : (n k : ℕ) → get_or (replicate n zero) k zero ≡ zero
 zeros zero k = refl
 zeros (suc n) zero = refl
 zeros (suc n) (suc k) = zeros n k
@@ -88,10 +88,10 @@ pub record IsLonger {T : Type 0} (old new : List T) (blank : T) : Type 0 where
   pub same : (i : ℕ) → i < length old → get_or new i blank ≡ get_or old i blank
   pub more : (i : ℕ) → length old ≤ i → i < length old + 4 → get_or new i blank ≡ blank
 
-number-set : (ns : List ℕ) (k j v : ℕ) → (k ≡ j → ⊥) → get_or (set ns j v) k 0 ≡ get_or ns k 0
+pub number-set : (ns : List ℕ) (k j v : ℕ) → (k ≡ j → ⊥) → get_or (set ns j v) k 0 ≡ get_or ns k 0
 number-set ns k j v ne = rw get_or-set_other refl
 
-number-here : (ns : List ℕ) (j v : ℕ) → j < length ns → get_or (set ns j v) j 0 ≡ v
+pub number-here : (ns : List ℕ) (j v : ℕ) → j < length ns → get_or (set ns j v) j 0 ≡ v
 number-here ns j v lt = get_or-set_same ns j v 0 lt
 
 pub next-pages : {T : Type 0} → (ns : List ℕ) (old new : List T) (blank : T) (page v : ℕ) → ArePages ns old blank

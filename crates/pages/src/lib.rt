@@ -4,6 +4,9 @@
 ghost use Rattle.std.specs.Prelude.{◌≡◌, ℕ, ◌+◌, ◌*◌, ◌^◌, ◌<◌, ◌≤◌, length, replicate, slice_index, slice_index_or, slice_set, vec_capacity, IfOk};
 ghost use Rattle.pages.specs.Pages.{item_at, ArePages};
 
+mod sparse;
+
+pub use sparse::Sparse;
 use std::alloc::{AllocError, Global};
 use std::marker::Model;
 

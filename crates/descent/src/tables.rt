@@ -16,7 +16,7 @@ ghost use Rattle.segment.specs.Measure.{IsSane};
 
 use crate::rows::CutRow;
 use expr::{Fact, Name};
-use pages::Pages;
+use pages::Sparse;
 use segment::{Seg, unit};
 use std::alloc::{AllocError, Global};
 use std::marker::Model;
@@ -37,7 +37,7 @@ pub(crate) struct Table<I> {
     len: u32,
     greatest: u64,
     /// Each row stands at the place of its first block of 16 readings.
-    places: Pages<Option<Row<I>>>,
+    places: Sparse<Option<Row<I>>>,
     /// The first block of the row that covers a block.
     owners: Vec<u32>,
 }
@@ -55,7 +55,7 @@ impl<I> Model for Table<I> {
     ghost invariant = { IsTable };
 }
 
-fn row_in<I: Copy>(places: &Pages<Option<Row<I>>>, block: usize) -> Option<Row<I>>
+fn row_in<I: Copy>(places: &Sparse<Option<Row<I>>>, block: usize) -> Option<Row<I>>
     ensures { result ≡ get_or places.now block None }
 {
     if block < places.len() {
@@ -65,7 +65,7 @@ fn row_in<I: Copy>(places: &Pages<Option<Row<I>>>, block: usize) -> Option<Row<I
     }
 }
 
-fn put_one<I: Copy>(places: &mut Pages<Option<Row<I>>>, at: usize, row: Row<I>)
+fn put_one<I: Copy>(places: &mut Sparse<Option<Row<I>>>, at: usize, row: Row<I>)
     requires { at < length places.old }
     ensures { places.new ≡ slice_set places.old at (Some row) }
 {
@@ -73,7 +73,7 @@ fn put_one<I: Copy>(places: &mut Pages<Option<Row<I>>>, at: usize, row: Row<I>)
 }
 
 fn put_two<I: Copy>(
-    places: &mut Pages<Option<Row<I>>>,
+    places: &mut Sparse<Option<Row<I>>>,
     first: usize,
     second: usize,
     left: Row<I>,
@@ -87,7 +87,7 @@ fn put_two<I: Copy>(
     places.put(second, Some(right));
 }
 
-fn join_two<I: Copy>(places: &mut Pages<Option<Row<I>>>, first: usize, second: usize, row: Row<I>)
+fn join_two<I: Copy>(places: &mut Sparse<Option<Row<I>>>, first: usize, second: usize, row: Row<I>)
     requires first { first < length places.old }
     requires second { second < length places.old }
     ensures { places.new ≡ slice_set (slice_set places.old first (Some row)) second None }
@@ -123,7 +123,7 @@ impl<I: Copy> Table<I> {
         ensures { IfOk result (λ t. t ≡ root_table series name len root) }
     {
         let Some(node) = root else {
-            let places = Pages::filled(alloc, 0, None)?;
+            let places = Sparse::filled(alloc, 0, None)?;
             return Ok(Table {
                 series,
                 name,
@@ -133,7 +133,7 @@ impl<I: Copy> Table<I> {
                 owners: Vec::new(alloc),
             });
         };
-        let mut places = Pages::filled(alloc, len.div_ceil(16) as usize, None)?;
+        let mut places = Sparse::filled(alloc, len.div_ceil(16) as usize, None)?;
         let row = Row {
             id: node.0,
             seg: node.1,
@@ -304,7 +304,7 @@ impl<I: Copy> Table<I> {
         ensures few { OnOk result (length rows.new.items ≤ length rows.old.items + 2 ^ 16) }
     {
         for i in 0..self.places.len() {
-            let Some(row) = row_in(&self.places, i) else {
+            let Some(row) = self.places.item(i) else {
                 continue;
             };
             rows.push(CutRow {

@@ -1,5 +1,5 @@
 use Rattle.std.proofs.Common.{◌≡◌, ◌<◌, ◌+◌, suc, ◌∷◌, [], ◌++◌, length, take, get_or, None, Some, ap, sym, ◌∙◌, arith, length-append}
-use Rattle.std.proofs.lemmas.List.{append_assoc}
+use Rattle.std.proofs.lemmas.List.{append_assoc, get_or_default}
 use Rattle.descent.specs.Laid.{held}
 use Rattle.descent.specs.Told.{told_row}
 use Rattle.descent.proofs.Telling.{told_places, passed, one_more, told-held}
@@ -10,7 +10,7 @@ loop-i-preserved-in_default g c =
     let xs = c.self.inside.places in
     let i = c.loop-i.i in
     let lt : i < length xs = omega arith in
-    let e : None ≡ get_or xs i None = c.in_default.ensures in
+    let e : None ≡ get_or xs i None = sym c.in_default.is ∙ c.item.ensures ∙ get_or_default xs i c.item.result.now None lt in
     let next : i + 1 ≡ suc i = omega arith in
     record {
       told = rw next (c.loop-i.invariant.told ∙ sym (ap (λ ys. c.args.rows.now.items ++ ys) (passed c.self.inside.series i xs lt (sym e))));
@@ -23,7 +23,7 @@ loop-i-preserved g c =
     let i = c.loop-i.i in
     let r = c.in-Some.row in
     let lt : i < length xs = omega arith in
-    let e : Some r ≡ get_or xs i None = c.in-Some.ensures in
+    let e : Some r ≡ get_or xs i None = sym c.in-Some.is ∙ c.item.ensures ∙ get_or_default xs i c.item.result.now None lt in
     let more = one_more c.self.inside.series i xs r lt (sym e) in
     let before = told_places c.self.inside.series (take i xs) in
     let next : i + 1 ≡ suc i = omega arith in

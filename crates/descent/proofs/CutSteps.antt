@@ -18,8 +18,8 @@ pub record LiesIn (k : KeptSum) (c : ℕ) : Type 0 where
   pub within : c + lens_of k c ≤ cells_in k.cells
   pub low : offset_of k.cells c < offset_of k.cells (c + lens_of k c)
   pub high : offset_of k.cells (c + lens_of k c) ≤ k.cells.count
-  pub listed : c < length k.lens.items
-  pub whole : c + lens_of k c ≤ length k.lens.items
+  pub listed : c < length k.lens
+  pub whole : c + lens_of k c ≤ length k.lens
   pub room : k.cells.count ≤ 2 ^ 41
   pub few : cells_in k.cells ≤ 2 ^ 20
 

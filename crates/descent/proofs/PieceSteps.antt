@@ -44,7 +44,7 @@ same-outside old new c len d same trimmed some le (inr ge) = record {
 }
 
 pub is-cut-off : (cut : Cut) (t : Term) (old new : KeptSum) (c n : ℕ) → CanSay cut t old → IsShaped cut t old → 0 < lens_of old c → Trims old new c
-    → n ≡ offset_of new.cells (c + lens_of new c) - offset_of new.cells c → 0 < n → length new.lens.items ≡ length old.lens.items → new ≡ record old { lens = new.lens } → IsCutOff cut t old new c n
+    → n ≡ offset_of new.cells (c + lens_of new c) - offset_of new.cells c → 0 < n → length new.lens ≡ length old.lens → new ≡ record old { lens = new.lens } → IsCutOff cut t old new c n
 is-cut-off cut t old new c n say shaped some (len, more, le, trimmed) size left long same =
     let sums : IsSameSum old new = record { cells = ap (λ (k : KeptSum). k.cells) same; first = ap (λ (k : KeptSum). k.first) same; readers = ap (λ (k : KeptSum). k.readers) same } in
     let shape = shaped-trimmed cut t old new c len same shaped long trimmed more le in
@@ -82,7 +82,7 @@ settled-by cut t old k new c n e ws is began said still count can here others sa
     let w = lies.within in
     let p = is.piece in
     let listed : c < length k.estimates = let l = is.shaped.estimates in omega arith in
-    let lens : lens_of new c ≡ lens_of k c = ap (λ (v : _). get_or v.items c 0) same.lens in
+    let lens : lens_of new c ≡ lens_of k c = ap (λ (v : List ℕ). get_or v c 0) same.lens in
     record {
       shaped = shaped-weights cut t (record k { estimates = set k.estimates c e }) new c (shaped-estimate cut t k c e is.shaped is.piece) same others can is.piece;
       piece = omega arith;

@@ -72,7 +72,7 @@ read-between g at s a b low high = record {
 -- ---- a piece is cut off
 
 pub shaped-trimmed : (cut : Cut) (t : Term) (old new : KeptSum) (c len : ℕ) → new ≡ record old { lens = new.lens } → IsShaped cut t old
-    → length new.lens.items ≡ length old.lens.items → IsTrimmed (lens_of old) (lens_of new) c len → 0 < len → len ≤ lens_of old c → IsShaped cut t new
+    → length new.lens ≡ length old.lens → IsTrimmed (lens_of old) (lens_of new) c len → 0 < len → len ≤ lens_of old c → IsShaped cut t new
 shaped-trimmed cut t old new c len same h long trimmed some le = subst (IsShaped cut t) (sym same) (record {
   can = record {
     sound = h.can.sound;
@@ -131,7 +131,7 @@ shaped-weights cut t old new c h same others can some = record {
   estimates = rw (same.estimates, same.cells) h.estimates;
   tiled = rw (same.lens, same.cells) h.tiled;
   blank = λ d none.
-      let e : lens_of new d ≡ lens_of old d = ap (λ (v : _). get_or v.items d 0) same.lens in
+      let e : lens_of new d ≡ lens_of old d = ap (λ (v : List ℕ). get_or v d 0) same.lens in
       let b = h.blank d (sym e ∙ none) in
       let ne : d ≡ c → ⊥ = λ q. let z : lens_of old d ≡ lens_of old c = ap (lens_of old) q in omega arith in
       record {
@@ -157,7 +157,7 @@ said-right cut t k new c n e ws same lt size said still readers count here =
     })
   where
     lens : lens_of new c ≡ lens_of k c
-    lens = ap (λ (v : _). get_or v.items c 0) same.lens
+    lens = ap (λ (v : List ℕ). get_or v c 0) same.lens
 
     wide : n ≡ offset_of k.cells (c + lens_of new c) - offset_of k.cells c
     wide = size ∙ ap (λ m. offset_of k.cells (c + m) - offset_of k.cells c) (sym lens)
@@ -165,7 +165,7 @@ said-right cut t k new c n e ws same lt size said still readers count here =
 -- what stands at another cell
 pub same-at : (k new : KeptSum) (c d : ℕ) (e : ℤ) → HasOtherWeights (record k { estimates = set k.estimates c e }) new → OtherAt k new c → (d ≡ c → ⊥) → IsSameAt k new d
 same-at k new c d e same others ne = record {
-  lens = ap (λ (v : _). get_or v.items d 0) same.lens;
+  lens = ap (λ (v : List ℕ). get_or v d 0) same.lens;
   estimates = ap (λ (es : List ℤ). reading es d) same.estimates ∙ get_or-set_other k.estimates c d e (pos 0) ne;
   weights = λ o. others o d ne;
 }

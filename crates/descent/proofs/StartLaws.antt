@@ -106,7 +106,7 @@ charged-none cut k borders room zeros none = record {
 -- ---- all of it
 
 pub shaped-start : (cut : Cut) (t : Term) (k : KeptSum) → IsSound cut → AtBorders cut → AreCells k.cells → AreAligned k.cells k.readers.items → AreReadersOf cut t k.first k.cells.count k.readers.items
-    → k.lens.items ≡ set (replicate (cells_in k.cells) 0) 0 (cells_in k.cells) → k.estimates ≡ replicate (cells_in k.cells) (pos 0) → length k.weights.items ≡ length k.readers.items
+    → k.lens ≡ set (replicate (cells_in k.cells) 0) 0 (cells_in k.cells) → k.estimates ≡ replicate (cells_in k.cells) (pos 0) → length k.weights.items ≡ length k.readers.items
     → ((o : ℕ) → o < length k.readers.items → cells_in k.cells ≤ length (numbers_at k.weights.items o)) → NoWeights k → band_of cut (length cut) ≤ length k.charges
     → k.charges ≡ replicate (length k.charges) 0 → IsShaped cut t k
 shaped-start cut t k sound borders cells aligned readers lens estimates count room none band zeros =
@@ -122,6 +122,6 @@ shaped-start cut t k sound borders cells aligned readers lens estimates count ro
       aligned = aligned;
       lens = ap length lens ∙ length-set (replicate (cells_in k.cells) 0) 0 (cells_in k.cells) ∙ zeros-length 0 (cells_in k.cells);
       estimates = ap length estimates ∙ zeros-length (pos 0) (cells_in k.cells);
-      tiled = one-piece-tiled k.lens.items (cells_in k.cells) lens;
+      tiled = one-piece-tiled k.lens (cells_in k.cells) lens;
       blank = λ c z. record { estimate = ap (λ (es : List ℤ). reading es c) estimates ∙ zeros-at (pos 0) (cells_in k.cells) c; weights = λ o. none o c };
     }

@@ -20,7 +20,7 @@ numbers_at ts o = get_or ts o []
 -- what the code keeps, by cells
 abbrev pub kept_of : KeptSum → Kept
 kept_of k = record {
-  lens = λ c. get_or k.lens.items c 0;
+  lens = λ c. get_or k.lens c 0;
   estimates = reading k.estimates;
   weights = λ o. number (numbers_at k.weights.items o);
 }
@@ -67,7 +67,7 @@ pub record IsKeptBut (doubt : ℕ → Type 0) (cut : Cut) (s : SumTerm) (k : Kep
   pub first : k.first ≡ first_of cut s
   pub readers : AreReadersOf cut s.series (first_of cut s) (count_of cut s) k.readers.items
   pub aligned : AreAligned k.cells k.readers.items
-  pub lens : length k.lens.items ≡ cells_in k.cells
+  pub lens : length k.lens ≡ cells_in k.cells
   pub estimates : length k.estimates ≡ cells_in k.cells
   pub weights : length k.weights.items ≡ length k.readers.items
   pub room : (o : ℕ) → o < length k.weights.items → cells_in k.cells ≤ length (numbers_at k.weights.items o)

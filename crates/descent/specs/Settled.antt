@@ -20,7 +20,7 @@ use Rattle.descent.specs.Sound.{IsSound}
 use Rattle.descent.specs.Sums.{count_of, first_of}
 
 abbrev pub lens_of : KeptSum → ℕ → ℕ
-lens_of k c = get_or k.lens.items c 0
+lens_of k c = get_or k.lens c 0
 
 -- the cells whose first offset is read in a segment, from one to before another
 pub record AreReadIn (g : Cells) (at : ℤ) (s : Seg) (from until : ℕ) : Type 0 where
@@ -84,7 +84,7 @@ pub record IsShaped (cut : Cut) (t : Term) (k : KeptSum) : Type 0 where
   pub can : CanBeCharged cut k
   pub readers : AreReadersOf cut t k.first k.cells.count k.readers.items
   pub aligned : AreAligned k.cells k.readers.items
-  pub lens : length k.lens.items ≡ cells_in k.cells
+  pub lens : length k.lens ≡ cells_in k.cells
   pub estimates : length k.estimates ≡ cells_in k.cells
   pub tiled : AreTiled (lens_of k) (cells_in k.cells)
   pub blank : (c : ℕ) → lens_of k c ≡ 0 → IsBlank (kept_of k) c

@@ -32,6 +32,7 @@ use crate::said::{say, stretch};
 use crate::tables::Table;
 use expr::{Bounds, Series};
 use num_text::Memory;
+use pages::Pages;
 use segment::Seg;
 use smallvec::SmallVec;
 use std::alloc::{AllocError, Global};
@@ -47,7 +48,7 @@ pub(crate) struct KeptSum {
     pub(crate) cells: Cells,
     pub(crate) first: i64,
     pub(crate) readers: Vec<Reader>,
-    pub(crate) lens: Vec<u32>,
+    pub(crate) lens: Pages<u32>,
     pub(crate) estimates: Estimates,
     pub(crate) weights: Vec<Tops>,
     pub(crate) charges: Charges,
@@ -123,13 +124,13 @@ fn positions(bounds: Bounds) -> usize
 }
 
 /// One piece over so many cells.
-fn one_piece(alloc: Global, cells: usize) -> Result<Vec<u32>, AllocError>
+fn one_piece(alloc: Global, cells: usize) -> Result<Pages<u32>, AllocError>
     requires { cells ≤ 2 ^ 20 }
-    ensures { IfOk result (λ lens. lens.items ≡ slice_set (replicate cells 0) 0 cells) }
+    ensures { IfOk result (λ lens. lens ≡ slice_set (replicate cells 0) 0 cells) }
 {
-    let mut lens = vec![in alloc; 0u32; cells]?;
-    if let Some(first) = lens.first_mut() {
-        *first = cells as u32;
+    let mut lens = Pages::filled(alloc, cells, 0u32)?;
+    if cells > 0 {
+        lens.put(0, cells as u32);
     }
     Ok(lens)
 }
@@ -151,18 +152,19 @@ fn no_weights(alloc: Global, occurrences: usize, cells: usize) -> Result<Vec<Top
 }
 
 /// The piece at a cell keeps so many cells, and its others become a piece of their own.
-fn trim(lens: &mut Vec<u32>, c: usize, len: usize)
+fn trim(lens: &mut Pages<u32>, c: usize, len: usize)
     requires some { 0 < len }
-    requires least { len ≤ slice_index lens.old.items c }
-    requires within { c + slice_index lens.old.items c ≤ length lens.old.items }
-    ensures trimmed { IsTrimmed (slice_index lens.old.items) (slice_index lens.new.items) c len }
-    ensures length { length lens.new.items ≡ length lens.old.items }
+    requires least { len ≤ slice_index lens.old c }
+    requires within { c + slice_index lens.old c ≤ length lens.old }
+    requires few { length lens.old ≤ 2 ^ 20 }
+    ensures trimmed { IsTrimmed (slice_index lens.old) (slice_index lens.new) c len }
+    ensures length { length lens.new ≡ length lens.old }
 {
-    let whole = lens[c];
+    let whole = lens.get(c);
     let kept = len as u32;
     if kept < whole {
-        lens[c] = kept;
-        lens[c + len] = whole - kept;
+        lens.put(c, kept);
+        lens.put(c + len, whole - kept);
     }
 }
 
@@ -267,11 +269,11 @@ impl KeptSum {
         ensures count { result ≡ offset_of self.new.cells (c + lens_of self.new c) - offset_of self.new.cells c }
         ensures some { 0 < result }
         ensures still { AllStay (shown tables.now) self.new.readers.items (offset_of self.new.cells c) result }
-        ensures length { length self.new.lens.items ≡ length self.old.lens.items }
+        ensures length { length self.new.lens ≡ length self.old.lens }
         ensures same { self.new ≡ record self.old { lens = self.new.lens } }
     {
         let from = self.cells.offset(c);
-        let until = self.cells.offset(c + self.lens[c] as usize);
+        let until = self.cells.offset(c + self.lens.get(c) as usize);
         let len = stretch(
             tables,
             self.readers.as_slice(),
@@ -343,7 +345,7 @@ impl KeptSum {
         let mut c = from;
         while c < until {
             self.settle_at(alloc, t, tables, c, &mut segs)?;
-            c += self.lens[c] as usize;
+            c += self.lens.get(c) as usize;
         }
         Ok(())
     }

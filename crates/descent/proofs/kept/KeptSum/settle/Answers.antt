@@ -18,6 +18,6 @@ loop-c-preserved g c =
     let next = settle-step cut t c.args.from c.args.until at c.args.self.now c.loop-c.self new c.loop-c.invariant.settled c.loop-c.invariant.low c.loop-c-test.true c.requires.within (c.requires.ends (omega (arith, c.loop-c.invariant.low, c.loop-c-test.true))) some
     (record { shaped = is.shaped; piece = is.piece; right = is.right; others = is.others; same = is.same }) in
     let lies = piece-in cut t new at is.shaped is.piece in
-    let e : lens_of new at ≡ c.index.result.now = get_or_default new.lens.items at 0 c.index.result.now lies.listed ∙ sym c.index.ensures in
-    let there : IsNext cut t c.args.from c.args.until (at + c.index.result.now) c.args.self.now new = subst (λ m. IsNext cut t c.args.from c.args.until (at + m) c.args.self.now new) e next in
+    let e : lens_of new at ≡ c.get.result = get_or_default new.lens at 0 c.get.result lies.listed ∙ sym c.get.ensures in
+    let there : IsNext cut t c.args.from c.args.until (at + c.get.result) c.args.self.now new = subst (λ m. IsNext cut t c.args.from c.args.until (at + m) c.args.self.now new) e next in
     record { low = omega (arith, c.loop-c.invariant.low); high = there.high; begins = there.begins; settled = there.settled }

@@ -135,7 +135,7 @@ returns-clause-shaped g c =
     let k : KeptSum = record { cells = c.cells_for-cells.result; first = z; readers = c.in_ok-readers.readers; lens = c.in_ok-lens.lens; estimates = c.in_ok-estimates.estimates; weights = c.in_ok-weights.weights; charges = c.in_ok-charges.charges } in
     let aligned : AreAligned c.cells_for-cells.result c.in_ok-readers.readers.items = subst (λ (rs : List Reader). AreAligned c.cells_for-cells.result rs) c.as_slice-2.ensures.value c.cells_for-cells.ensures.aligned in
     let readers : AreReadersOf cut t z c.cells_for-cells.result.count c.in_ok-readers.readers.items = subst (λ m. AreReadersOf cut t z m c.in_ok-readers.readers.items) (sym (c.cells_for-cells.ensures.count ∙ n)) are in
-    let lens : c.in_ok-lens.lens.items ≡ set (replicate (cells_in c.cells_for-cells.result) 0) 0 (cells_in c.cells_for-cells.result) = c.in_ok-lens.ensures ∙ ap (λ m. set (replicate m 0) 0 m) c.len.ensures in
+    let lens : c.in_ok-lens.lens ≡ set (replicate (cells_in c.cells_for-cells.result) 0) 0 (cells_in c.cells_for-cells.result) = c.in_ok-lens.ensures ∙ ap (λ m. set (replicate m 0) 0 m) c.len.ensures in
     let zero : ℤ = pos 0 in
     let estimates : c.in_ok-estimates.estimates ≡ replicate (cells_in c.cells_for-cells.result) zero = c.in_ok-estimates.ensures ∙ ap (λ m. replicate m zero) c.len-2.ensures in
     let count : length c.in_ok-weights.weights.items ≡ length c.in_ok-readers.readers.items = omega (arith, c.in_ok-weights.ensures.count, c.len-3.ensures, c.in_ok-readers.readers.ok.0) in

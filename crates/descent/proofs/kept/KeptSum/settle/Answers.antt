@@ -20,4 +20,4 @@ loop-c-preserved g c =
     let lies = piece-in cut t new at is.shaped is.piece in
     let e : lens_of new at ≡ c.index.result.now = get_or_default new.lens.items at 0 c.index.result.now lies.listed ∙ sym c.index.ensures in
     let there : IsNext cut t c.args.from c.args.until (at + c.index.result.now) c.args.self.now new = subst (λ m. IsNext cut t c.args.from c.args.until (at + m) c.args.self.now new) e next in
-    record { low = omega (arith, c.loop-c.invariant.low); high = there.high; begins = there.begins; settled = there.settled }
+    record { low = omega (arith, c.loop-c.invariant.low); high = there.high; begins = there.begins; settled = there.settled; room = is.room }

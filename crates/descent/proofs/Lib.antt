@@ -10,6 +10,7 @@ pub mod Owners
 pub mod Standing
 pub mod ReaderLaws
 pub mod SayLaws
+pub mod AloneLaws
 pub mod Backs
 pub mod Steps
 pub mod Tracks

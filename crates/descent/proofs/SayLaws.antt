@@ -188,6 +188,17 @@ estimate-small cut s t l rs from n i h le =
     let c : i * k ≤ a.n * k = mul-le-mul (omega arith) (omega arith) in
     omega (arith, b, c, u.both)
 
+pub read-one : (cut : Cut) (s : SumTerm) (t : Term) (l : ℤ) (rs : List Reader) (from n i : ℕ) → AreRead cut s t l rs from n → i < n → AreRead cut s t l rs (from + i) 1
+read-one cut s t l rs from n i h lt = let within = h.within in record { sum = h.sum; readers = h.readers; some = omega arith; within = omega arith }
+
+-- that of a single one too
+pub one-small : (cut : Cut) (s : SumTerm) (t : Term) (l : ℤ) (rs : List Reader) (from n i : ℕ) → AreRead cut s t l rs from n → i < n → unsigned_abs (estimate_from (segs_of (entries cut)) t l (from + i)) ≤ 2 ^ 125
+one-small cut s t l rs from n i h lt =
+    let z : from + i + 0 ≡ from + i = omega arith in
+    let b = estimate-small cut s t l rs (from + i) 1 1 (read-one cut s t l rs from n i h lt) (omega arith) in
+    let e : total_below (behind (estimate_from (segs_of (entries cut)) t l) (from + i)) 1 ≡ estimate_from (segs_of (entries cut)) t l (from + i) = let f = ap (estimate_from (segs_of (entries cut)) t l) z in omega (arith, ints, f) in
+    subst (λ x. unsigned_abs x ≤ 2 ^ 125) e b
+
 -- ---- the estimate and the weights
 
 pub same-total : (cut : Cut) (s : SumTerm) (t : Term) (l : ℤ) (rs : List Reader) (offset len : ℕ) (gs : List Seg) (m : Local) → AreSame cut s t l rs offset len gs → IsLocalOf m len t gs (l +ℤ pos offset)
@@ -234,25 +245,36 @@ closed-same cut s t l rs from n h still closed o i lo li =
 pub one-same : (cut : Cut) (rs : List Reader) (offset : ℕ) → ReadTheSame cut rs offset 1
 one-same cut rs offset o i lo li = let z : offset + i ≡ offset = omega arith in ap (λ k. seg_read cut k (reader_at rs o)) z
 
-pub read-one : (cut : Cut) (s : SumTerm) (t : Term) (l : ℤ) (rs : List Reader) (from n i : ℕ) → AreRead cut s t l rs from n → i < n → AreRead cut s t l rs (from + i) 1
-read-one cut s t l rs from n i h lt = let within = h.within in record { sum = h.sum; readers = h.readers; some = omega arith; within = omega arith }
+-- one offset of some
+pub one-gathered : (cut : Cut) (s : SumTerm) (t : Term) (l : ℤ) (rs : List Reader) (offset : ℕ) (gs : List Seg) → AreRead cut s t l rs offset 1 → gs ≡ map (seg_read cut offset) rs → AreSame cut s t l rs offset 1 gs
+one-gathered cut s t l rs offset gs h e = record { read = h; same = one-same cut rs offset; segs = e }
+
+pub one-estimate : (cut : Cut) (s : SumTerm) (t : Term) (l : ℤ) (rs : List Reader) (offset : ℕ) (gs : List Seg) → AreSame cut s t l rs offset 1 gs
+    → estimate_by t gs (l +ℤ pos offset) ≡ estimate_from (segs_of (entries cut)) t l offset
+one-estimate cut s t l rs offset gs h =
+    let b = by_pieces (segs_of (entries cut)) t l offset 1 gs (same-piece cut s t l rs offset 1 gs h) in
+    let z : offset + 0 ≡ offset = omega arith in
+    sym (subst (λ k. estimate_from (segs_of (entries cut)) t l k ≡ estimate_by t gs (l +ℤ pos k)) z (b.estimates 0 (omega arith)))
+
+pub one-weight : (cut : Cut) (s : SumTerm) (t : Term) (l : ℤ) (rs : List Reader) (offset : ℕ) (gs : List Seg) (o : ℕ) → AreSame cut s t l rs offset 1 gs → o < names_in t
+    → get_or (shape t gs).weights o 0 ≡ weight_at (segs_of (entries cut)) t l o offset
+one-weight cut s t l rs offset gs o h lt =
+    let b = by_pieces (segs_of (entries cut)) t l offset 1 gs (same-piece cut s t l rs offset 1 gs h) in
+    let z : offset + 0 ≡ offset = omega arith in
+    sym (subst (λ k. weight_at (segs_of (entries cut)) t l o k ≡ get_or (shape t gs).weights o 0) z (b.weights o 0 lt (omega arith)))
 
 -- ---- one offset more
 
 pub said-none : (cut : Cut) (t : Term) (l : ℤ) (from : ℕ) (w : ℕ → ℕ) → ((o : ℕ) → w o ≡ 0) → IsSaid cut t l from 0 (pos 0) w
 said-none cut t l from w z = record { estimate = refl; greatest = λ o lt. z o }
 
-pub said-next : (cut : Cut) (t : Term) (l : ℤ) (from i : ℕ) (x y : ℤ) (v w : ℕ → ℕ) → IsSaid cut t l from i x v → y ≡ total_below (behind (estimate_from (segs_of (entries cut)) t l) (from + i)) 1
-    → ((o : ℕ) → o < names_in t → w o ≡ max (v o) (most_below (behind (weight_at (segs_of (entries cut)) t l o) (from + i)) 1)) → IsSaid cut t l from (i + 1) (x +ℤ y) w
+pub said-next : (cut : Cut) (t : Term) (l : ℤ) (from i : ℕ) (x y : ℤ) (v w : ℕ → ℕ) → IsSaid cut t l from i x v → y ≡ estimate_from (segs_of (entries cut)) t l (from + i)
+    → ((o : ℕ) → o < names_in t → w o ≡ max (v o) (weight_at (segs_of (entries cut)) t l o (from + i))) → IsSaid cut t l from (i + 1) (x +ℤ y) w
 said-next cut t l from i x y v w h e m =
-    let z : from + i + 0 ≡ from + i = omega arith in
     let n : i + 1 ≡ suc i = omega arith in
-    let f = estimate_from (segs_of (entries cut)) t l in
     record {
-      estimate = rw n (let a = h.estimate in let b : f (from + i + 0) ≡ f (from + i) = ap f z in omega (arith, ints, a, b, e));
-      greatest = λ o lt.
-          let g = weight_at (segs_of (entries cut)) t l o in
-          rw n (let a = h.greatest o lt in let b : g (from + i + 0) ≡ g (from + i) = ap g z in omega (arith, a, b, m o lt));
+      estimate = rw n (let a = h.estimate in omega (arith, ints, a, e));
+      greatest = λ o lt. rw n (let a = h.greatest o lt in omega (arith, a, m o lt));
     }
 
 pub said-whole : (cut : Cut) (t : Term) (l : ℤ) (from n : ℕ) (x : ℤ) (v w : ℕ → ℕ) → ((o : ℕ) → v o ≡ 0) → x ≡ total_below (behind (estimate_from (segs_of (entries cut)) t l) from) n

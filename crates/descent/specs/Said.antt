@@ -1,10 +1,11 @@
 -- What the readers of a sum read at its offsets.
-use Rattle.std.specs.Prelude.{◌≡◌, ℕ, ◌+◌, ◌*◌, ◌<◌, ◌≤◌, ◌⊎◌, ℤ, pos, ◌+ℤ◌, ◌≤ℤ◌, List, length}
+use Rattle.std.specs.Prelude.{◌≡◌, ℕ, ◌+◌, ◌*◌, ◌<◌, ◌≤◌, ◌⊎◌, true, ℤ, pos, ◌+ℤ◌, ◌≤ℤ◌, List, length}
 use Rattle.semantics.specs.Admission.{SumTerm}
 use Rattle.semantics.specs.Term.{Term}
 use Rattle.segment.specs.declared.segments.Seg.{Seg}
-use Rattle.bounds.specs.Segments.{seg_at}
+use Rattle.bounds.specs.Segments.{covers, seg_at}
 use Rattle.descent.specs.declared.readers.Reader.{Reader}
+use Rattle.descent.specs.declared.said.Room.{Room}
 use Rattle.descent.specs.Changed.{CanKeep}
 use Rattle.descent.specs.Choice.{Has}
 use Rattle.descent.specs.Kept.{StaysIn}
@@ -41,6 +42,11 @@ AllReadAt cut offset rs = (o : ℕ) → o < length rs → ReadsAt cut offset (re
 abbrev pub seg_read : Cut → ℕ → Reader → Seg
 seg_read cut offset r = seg_at (segs_of_rows (rows_read cut r)) (r.at +ℤ pos offset)
 
+-- the row that it reads there
+pub record IsRowRead (cut : Cut) (offset : ℕ) (r : Reader) (row : Row) : Type 0 where
+  pub there : Has row (rows_read cut r)
+  pub covered : covers row.seg (r.at +ℤ pos offset) ≡ true
+
 -- it reads a closed row there
 pub record ReadsClosed (cut : Cut) (offset : ℕ) (r : Reader) : Type 0 where
   pub position : ℕ
@@ -72,3 +78,8 @@ pub record SomeComes (rs : List Reader) (offset : ℕ) : Type 0 where
 abbrev pub ReadTheSame : Cut → List Reader → ℕ → ℕ → Type 0
 ReadTheSame cut rs offset n = (o i : ℕ) → o < length rs → i < n
     → seg_read cut (offset + i) (reader_at rs o) ≡ seg_read cut offset (reader_at rs o)
+
+-- room for the weights of so many occurrences
+pub record IsRoomFor (room : Room) (n : ℕ) : Type 0 where
+  pub here : length room.here.items ≡ n
+  pub weights : length room.weights.items ≡ n

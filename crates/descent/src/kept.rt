@@ -4,6 +4,7 @@ ghost use Rattle.std.specs.Prelude.{◌≡◌, ◌⊎◌, ℕ, ℤ, ◌+◌, ◌
 ghost use Rattle.std.specs.Option.{option_map};
 ghost use Rattle.expr.specs.Terms.{range_of, term_of};
 ghost use Rattle.semantics.specs.Admission.{SumTerm};
+ghost use Rattle.semantics.specs.Measures.{names_in};
 ghost use Rattle.semantics.specs.Readings.{positions_in};
 ghost use Rattle.semantics.specs.Sums.{most_below};
 ghost use Rattle.semantics.specs.Term.{Term};
@@ -17,7 +18,7 @@ ghost use Rattle.descent.specs.KeptSums.{band_of, charge_in, numbers_at, IsKeptS
 ghost use Rattle.descent.specs.Laid.{held};
 ghost use Rattle.descent.specs.Readers.{reader_at};
 ghost use Rattle.descent.specs.Rows.{Cut};
-ghost use Rattle.descent.specs.Said.{AllStay};
+ghost use Rattle.descent.specs.Said.{AllStay, IsRoomFor};
 ghost use Rattle.descent.specs.Settled.{lens_of, AreAtBorders, AreJointsFor, AreReadIn, AreRightIn, CanBeCharged, CanBeRead, CanSay, HasOtherWeights, IsJointOf, IsKeptBefore, IsOfSum, IsRest, IsRightAt, IsSameAt, IsSameSum, IsSettled, IsShaped, IsTrimmed};
 ghost use Rattle.descent.specs.Sound.{IsSound};
 
@@ -28,18 +29,14 @@ use crate::cuts::Change;
 use crate::estimates::Estimates;
 use crate::frames::facts_of;
 use crate::readers::{Reader, cells_for, position_of, readers_of};
-use crate::said::{say, stretch};
+use crate::said::{Room, say, stretch};
 use crate::tables::Table;
 use expr::{Bounds, Series};
 use num_text::Memory;
 use pages::Pages;
 use segment::Seg;
-use smallvec::SmallVec;
 use std::alloc::{AllocError, Global};
 use tops::Tops;
-
-/// For how many occurrences the weights of a piece are worked out without an allocation.
-const INLINE: usize = 4;
 
 /// The cells of a sum joined to pieces: how many cells a piece has, its estimate and the greatest weight of each
 /// occurrence stand at its first cell, and 0 at all others.
@@ -292,35 +289,26 @@ impl KeptSum {
         t: &Series,
         tables: &[Table<I>],
         c: usize,
-        segs: &mut Vec<Seg>,
+        room: &mut Room,
     ) -> Result<(), Memory>
         requires say { CanSay (shown tables.now) (term_of t.now) self.old }
         requires shaped { IsShaped (shown tables.now) (term_of t.now) self.old }
         requires piece { 0 < lens_of self.old c }
+        requires room { IsRoomFor room.old (names_in (term_of t.now)) }
         ensures shaped { OnOk result (IsShaped (shown tables.now) (term_of t.now) self.new) }
         ensures piece { OnOk result (0 < lens_of self.new c) }
         ensures right { OnOk result (IsRightAt (shown tables.now) (term_of t.now) self.new c) }
         ensures others { OnOk result ((d : ℕ) → (d < c) ⊎ (c + lens_of self.old c ≤ d)
             → IsSameAt self.old self.new d) }
         ensures same { OnOk result (IsSameSum self.old self.new) }
+        ensures room { OnOk result (IsRoomFor room.new (names_in (term_of t.now))) }
     {
         let len = self.cut_off(tables, c);
         let from = self.cells.offset(c) as u64;
         let readers = self.readers.as_slice();
-        let mut weights = SmallVec::<u128, INLINE>::from_elem(alloc, 0, readers.len())?;
-        let estimate = say(
-            alloc,
-            t,
-            self.first,
-            tables,
-            readers,
-            from,
-            len,
-            segs,
-            weights.as_mut_slice(),
-        )?;
+        let estimate = say(alloc, t, self.first, tables, readers, from, len, room)?;
         self.estimates.put(c, estimate);
-        self.put_weights(tables, c, weights.as_slice());
+        self.put_weights(tables, c, room.weights());
         Ok(())
     }
 
@@ -341,10 +329,10 @@ impl KeptSum {
         requires ends { from < until → IsJointOf self.old until }
         ensures { OnOk result (IsSettled (shown tables.now) (term_of t.now) from until self.old self.new) }
     {
-        let mut segs = Vec::new(alloc);
+        let mut room = Room::new(alloc, self.readers.len())?;
         let mut c = from;
         while c < until {
-            self.settle_at(alloc, t, tables, c, &mut segs)?;
+            self.settle_at(alloc, t, tables, c, &mut room)?;
             c += self.lens.get(c) as usize;
         }
         Ok(())

@@ -10,7 +10,7 @@ ghost use Rattle.descent.specs.Laid.{blocks, held, replaced, IsRowFrom, IsOpened
 ghost use Rattle.descent.specs.Choice.{Has};
 ghost use Rattle.descent.specs.Known.{fact_of};
 ghost use Rattle.expr.specs.Facts.{fact_of as fact_by};
-ghost use Rattle.descent.specs.Rows.{segs_of_rows, with_rows};
+ghost use Rattle.descent.specs.Rows.{segs_of_row, segs_of_rows, with_rows};
 ghost use Rattle.descent.specs.Sound.{AreSmall, IsSoundRow, IsSoundTrack};
 ghost use Rattle.segment.specs.Measure.{IsSane};
 
@@ -27,6 +27,20 @@ pub(crate) struct Row<I> {
     pub(crate) id: I,
     pub(crate) seg: Seg,
     pub(crate) readings: Option<[i32; 16]>,
+}
+
+impl<I: Copy> Row<I> {
+    /// The segment that the row gives at one of its positions: that of a reading where it is opened.
+    pub(crate) fn seg_at(&self, position: u32) -> Seg
+        requires sound { (d : ℕ) × IsSoundRow d (held self.now).row }
+        requires covered { covers self.now.seg (pos position) ≡ true }
+        ensures { result ≡ seg_over (segs_of_row (held self.now).row) (pos position) }
+    {
+        match &self.readings {
+            None => self.seg,
+            Some(xs) => unit(xs[(position - self.seg.start) as usize], position),
+        }
+    }
 }
 
 /// What a cut has of one series, seen as a track. To split a row takes two writes and no memory.
@@ -233,7 +247,7 @@ impl<I: Copy> Table<I> {
     }
 
     /// The row at a position.
-    fn row_at(&self, position: u32) -> &Row<I>
+    pub(crate) fn row_at(&self, position: u32) -> &Row<I>
         requires { position < self.now.len }
         ensures there { Has (held result.now) self.now.rows }
         ensures covered { covers result.now.seg (pos position) ≡ true }
@@ -265,11 +279,7 @@ impl<I: Copy> Table<I> {
         requires { position < self.now.len }
         ensures { result ≡ seg_over (segs_of_rows (map row_held self.now.rows)) (pos position) }
     {
-        let row = self.row_at(position);
-        match row.readings {
-            None => row.seg,
-            Some(xs) => unit(xs[(position - row.seg.start) as usize], position),
-        }
+        self.row_at(position).seg_at(position)
     }
 
     /// The position behind the row at one.

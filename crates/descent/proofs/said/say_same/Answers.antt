@@ -1,4 +1,5 @@
-use Rattle.std.proofs.Common.{◌≡◌, ℕ, ℤ, List, arith, rules, max, get_or, ap, sym, subst, ◌∙◌, length, ◌+ℤ◌, pos}
+use Rattle.std.proofs.Common.{◌≡◌, ℕ, ℤ, List, arith, rules, max, get_or, ap, refl, sym, subst, ◌∙◌, length, ◌+ℤ◌, pos}
+use Rattle.std.specs.List.{refill}
 use Rattle.std.proofs.lemmas.Int.{to_z-of_z}
 use mir.Val.{SFits, to_z, of_z}
 use mir.Syntax.{w64, w128}
@@ -8,6 +9,7 @@ use Rattle.bounds.specs.Reads.{AreCovered, AreSane}
 use Rattle.bounds.specs.Shape.{shape}
 use Rattle.error_prop.specs.Locals.{IsInRangeOver}
 use Rattle.error_prop.proofs.Arms.{length-weights}
+use Rattle.error_prop.proofs.Costs.{refilled}
 use Rattle.error_prop.proofs.Locals.{IsLocalOf}
 use Rattle.error_prop.proofs.SweepLaws.{SumsUp}
 use Rattle.descent.specs.Held.{shown}
@@ -62,7 +64,7 @@ raise-requires g c =
     let e : to_z w64 (of_z w64 c.moved_up-start.result) ≡ l +ℤ pos offset = to_z-of_z w64 c.moved_up-start.result fs ∙ c.moved_up-start.ensures ∙ ap (λ (z : ℤ). z +ℤ pos offset) (to_z-of_z w64 l fl) in
     let m = c.in-Ok.m in
     let k : IsLocalOf m len t gs (l +ℤ pos offset) = subst (λ i. IsLocalOf m len t gs i) e (rw c.in-Ok.is at c.local_form-formed.ensures.local) in
-    c.requires.count ∙ sym (ap length (c.as_slice-2.ensures ∙ k.weights) ∙ length-weights t gs)
+    ap length c.as_mut_slice.ensures.value ∙ c.requires.room.weights ∙ sym (ap length (c.as_slice-2.ensures ∙ k.weights) ∙ length-weights t gs)
 
 pub sum_over-total-requires-clause-fewer : goal.sum_over-total-requires-clause-fewer
 sum_over-total-requires-clause-fewer g c =
@@ -139,9 +141,14 @@ returns-clause-weights g c =
     let e : to_z w64 (of_z w64 c.moved_up-start.result) ≡ l +ℤ pos offset = to_z-of_z w64 c.moved_up-start.result fs ∙ c.moved_up-start.ensures ∙ ap (λ (z : ℤ). z +ℤ pos offset) (to_z-of_z w64 l fl) in
     let m = c.in-Ok.m in
     let k : IsLocalOf m len t gs (l +ℤ pos offset) = subst (λ i. IsLocalOf m len t gs i) e (rw c.in-Ok.is at c.local_form-formed.ensures.local) in
+    let old = c.args.room.now.weights.items in
+    let new = c.raise.new.weights in
     let ws = c.as_slice-2.result.now in
     let wk : ws ≡ (shape t gs).weights = c.as_slice-2.ensures ∙ k.weights in
     let count : length ws ≡ names_in t = ap length wk ∙ length-weights t gs in
+    let whole : refill (length old) old new ≡ new = refilled _ _ _ _ refl (omega (arith, c.raise.auto.weights, ap length c.as_mut_slice.ensures.value)) in
     λ o lt.
-    c.raise.ensures o (omega (arith, count, lt))
-    ∙ ap (λ x. max (get_or c.args.weights.now o 0) x) (ap (λ (xs : List ℕ). get_or xs o 0) wk ∙ sym (same-most cut s t l rs offset len gs o h lt))
+    ap (λ (xs : List ℕ). get_or xs o 0) whole
+    ∙ c.raise.ensures o (omega (arith, count, lt))
+    ∙ ap (λ (xs : List ℕ). max (get_or xs o 0) (get_or ws o 0)) c.as_mut_slice.ensures.value
+    ∙ ap (λ x. max (get_or old o 0) x) (ap (λ (xs : List ℕ). get_or xs o 0) wk ∙ sym (same-most cut s t l rs offset len gs o h lt))

@@ -20,4 +20,4 @@ loop-c-preserved g c =
     let lies = piece-in cut t new at is.shaped is.piece in
     let e : lens_of new at ≡ c.get.result = get_or_default new.lens at 0 c.get.result lies.listed ∙ sym c.get.ensures in
     let there : IsNext cut t c.args.from c.args.until (at + c.get.result) c.args.self.now new = subst (λ m. IsNext cut t c.args.from c.args.until (at + m) c.args.self.now new) e next in
-    record { low = omega (arith, c.loop-c.invariant.low); high = there.high; begins = there.begins; settled = there.settled }
+    record { low = omega (arith, c.loop-c.invariant.low); high = there.high; begins = there.begins; settled = there.settled; room = is.room }

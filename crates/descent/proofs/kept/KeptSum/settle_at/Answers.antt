@@ -1,4 +1,4 @@
-use Rattle.std.proofs.Common.{◌≡◌, ℕ, ◌<◌, ℤ, get_or, List, length, set, SFits, refl, sym, ap, subst, ◌∙◌, arith, rules}
+use Rattle.std.proofs.Common.{◌≡◌, ℕ, ◌<◌, ℤ, get_or, List, length, set, SFits, sym, ap, subst, ◌∙◌, rules}
 use Rattle.std.specs.Int.{w64, w128}
 use mir.Val.{to_z, of_z}
 use Rattle.std.proofs.lemmas.Int.{to_z-of_z}
@@ -11,7 +11,6 @@ use Rattle.descent.specs.Held.{shown}
 use Rattle.descent.specs.Kept.{IsSaid}
 use Rattle.descent.specs.Said.{AllStay, AreRead}
 use Rattle.descent.proofs.PieceSteps.{can-estimate, cut-read, is-cut-off, settled-at}
-use Rattle.error_prop.proofs.Costs.{refilled}
 use Rattle.descent.specs.KeptSums.{numbers_at}
 use Rattle.descent.proofs.kept.KeptSum.settle_at.Goals as goal
 
@@ -56,20 +55,18 @@ returns-clause-shaped g c =
     let n = c.cut_off-len.result in
     let cut = shown c.args.tables.now in
     let t = term_of c.args.t.now in
-    let ws = c.say.new.weights in
+    let ws = c.say.new.room.weights.items in
     let e = c.cut_off-len.ensures in
     let estimate = c.in_ok-estimate.estimate in
     let is = is-cut-off cut t old k at n c.requires.say c.requires.shaped c.requires.piece e.trimmed e.count e.some e.length e.same in
     let f : SFits w128 estimate = search rules in
     let l : SFits w64 k.first = search rules in
     let put : c.put.new.self ≡ set k.estimates at estimate = c.put.ensures ∙ ap (λ (v : ℤ). set k.estimates at v) (to_z-of_z w128 estimate f) in
-    let said : IsSaid cut t (to_z w64 (of_z w64 k.first)) c.offset-from.result n estimate (λ o. get_or ws o 0) = c.in_ok-estimate.ensures in
+    let said : IsSaid cut t (to_z w64 (of_z w64 k.first)) c.offset-from.result n estimate (λ o. get_or ws o 0) = c.in_ok-estimate.ensures.said in
     let said-there : IsSaid cut t k.first (offset_of k.cells at) n estimate (λ o. get_or ws o 0) =
     subst (λ (z : ℤ). IsSaid cut t z (offset_of k.cells at) n estimate (λ o. get_or ws o 0)) (to_z-of_z w64 k.first l) (subst (λ from. IsSaid cut t (to_z w64 (of_z w64 k.first)) from n estimate (λ o. get_or ws o 0)) c.offset-from.ensures said) in
-    let readers : length c.as_slice-readers.result.now ≡ names_in t = ap length c.as_slice-readers.ensures.value ∙ is.shaped.readers.count in
-    let count : length ws ≡ names_in t = omega (arith, c.say.auto.weights, ap length c.as_mut_slice.ensures.value, c.in_ok-weights.ensures.len, readers) in
-    let whole : c.as_slice.result.now ≡ ws = c.as_slice.ensures ∙ refilled _ _ _ _ refl (omega (arith, c.say.auto.weights, ap length c.as_mut_slice.ensures.value)) in
-    let here : (o : ℕ) → o < length ws → number (numbers_at c.put_weights.new.self.weights.items o) at ≡ get_or ws o 0 = subst (λ (xs : List ℕ). (o : ℕ) → o < length xs → number (numbers_at c.put_weights.new.self.weights.items o) at ≡ get_or xs o 0) whole c.put_weights.ensures.here in
+    let count : length ws ≡ names_in t = c.in_ok-estimate.ensures.room.weights in
+    let here : (o : ℕ) → o < length ws → number (numbers_at c.put_weights.new.self.weights.items o) at ≡ get_or ws o 0 = subst (λ (xs : List ℕ). (o : ℕ) → o < length xs → number (numbers_at c.put_weights.new.self.weights.items o) at ≡ get_or xs o 0) c.weights.ensures c.put_weights.ensures.here in
     let all = settled-at cut t old k c.put_weights.new.self at n estimate ws c.put.new.self is c.requires.piece put said-there e.still count c.put_weights.ensures.can here c.put_weights.ensures.others c.put_weights.ensures.same in
     all.shaped
 
@@ -81,20 +78,18 @@ returns-clause-piece g c =
     let n = c.cut_off-len.result in
     let cut = shown c.args.tables.now in
     let t = term_of c.args.t.now in
-    let ws = c.say.new.weights in
+    let ws = c.say.new.room.weights.items in
     let e = c.cut_off-len.ensures in
     let estimate = c.in_ok-estimate.estimate in
     let is = is-cut-off cut t old k at n c.requires.say c.requires.shaped c.requires.piece e.trimmed e.count e.some e.length e.same in
     let f : SFits w128 estimate = search rules in
     let l : SFits w64 k.first = search rules in
     let put : c.put.new.self ≡ set k.estimates at estimate = c.put.ensures ∙ ap (λ (v : ℤ). set k.estimates at v) (to_z-of_z w128 estimate f) in
-    let said : IsSaid cut t (to_z w64 (of_z w64 k.first)) c.offset-from.result n estimate (λ o. get_or ws o 0) = c.in_ok-estimate.ensures in
+    let said : IsSaid cut t (to_z w64 (of_z w64 k.first)) c.offset-from.result n estimate (λ o. get_or ws o 0) = c.in_ok-estimate.ensures.said in
     let said-there : IsSaid cut t k.first (offset_of k.cells at) n estimate (λ o. get_or ws o 0) =
     subst (λ (z : ℤ). IsSaid cut t z (offset_of k.cells at) n estimate (λ o. get_or ws o 0)) (to_z-of_z w64 k.first l) (subst (λ from. IsSaid cut t (to_z w64 (of_z w64 k.first)) from n estimate (λ o. get_or ws o 0)) c.offset-from.ensures said) in
-    let readers : length c.as_slice-readers.result.now ≡ names_in t = ap length c.as_slice-readers.ensures.value ∙ is.shaped.readers.count in
-    let count : length ws ≡ names_in t = omega (arith, c.say.auto.weights, ap length c.as_mut_slice.ensures.value, c.in_ok-weights.ensures.len, readers) in
-    let whole : c.as_slice.result.now ≡ ws = c.as_slice.ensures ∙ refilled _ _ _ _ refl (omega (arith, c.say.auto.weights, ap length c.as_mut_slice.ensures.value)) in
-    let here : (o : ℕ) → o < length ws → number (numbers_at c.put_weights.new.self.weights.items o) at ≡ get_or ws o 0 = subst (λ (xs : List ℕ). (o : ℕ) → o < length xs → number (numbers_at c.put_weights.new.self.weights.items o) at ≡ get_or xs o 0) whole c.put_weights.ensures.here in
+    let count : length ws ≡ names_in t = c.in_ok-estimate.ensures.room.weights in
+    let here : (o : ℕ) → o < length ws → number (numbers_at c.put_weights.new.self.weights.items o) at ≡ get_or ws o 0 = subst (λ (xs : List ℕ). (o : ℕ) → o < length xs → number (numbers_at c.put_weights.new.self.weights.items o) at ≡ get_or xs o 0) c.weights.ensures c.put_weights.ensures.here in
     let all = settled-at cut t old k c.put_weights.new.self at n estimate ws c.put.new.self is c.requires.piece put said-there e.still count c.put_weights.ensures.can here c.put_weights.ensures.others c.put_weights.ensures.same in
     all.piece
 
@@ -106,20 +101,18 @@ returns-clause-right g c =
     let n = c.cut_off-len.result in
     let cut = shown c.args.tables.now in
     let t = term_of c.args.t.now in
-    let ws = c.say.new.weights in
+    let ws = c.say.new.room.weights.items in
     let e = c.cut_off-len.ensures in
     let estimate = c.in_ok-estimate.estimate in
     let is = is-cut-off cut t old k at n c.requires.say c.requires.shaped c.requires.piece e.trimmed e.count e.some e.length e.same in
     let f : SFits w128 estimate = search rules in
     let l : SFits w64 k.first = search rules in
     let put : c.put.new.self ≡ set k.estimates at estimate = c.put.ensures ∙ ap (λ (v : ℤ). set k.estimates at v) (to_z-of_z w128 estimate f) in
-    let said : IsSaid cut t (to_z w64 (of_z w64 k.first)) c.offset-from.result n estimate (λ o. get_or ws o 0) = c.in_ok-estimate.ensures in
+    let said : IsSaid cut t (to_z w64 (of_z w64 k.first)) c.offset-from.result n estimate (λ o. get_or ws o 0) = c.in_ok-estimate.ensures.said in
     let said-there : IsSaid cut t k.first (offset_of k.cells at) n estimate (λ o. get_or ws o 0) =
     subst (λ (z : ℤ). IsSaid cut t z (offset_of k.cells at) n estimate (λ o. get_or ws o 0)) (to_z-of_z w64 k.first l) (subst (λ from. IsSaid cut t (to_z w64 (of_z w64 k.first)) from n estimate (λ o. get_or ws o 0)) c.offset-from.ensures said) in
-    let readers : length c.as_slice-readers.result.now ≡ names_in t = ap length c.as_slice-readers.ensures.value ∙ is.shaped.readers.count in
-    let count : length ws ≡ names_in t = omega (arith, c.say.auto.weights, ap length c.as_mut_slice.ensures.value, c.in_ok-weights.ensures.len, readers) in
-    let whole : c.as_slice.result.now ≡ ws = c.as_slice.ensures ∙ refilled _ _ _ _ refl (omega (arith, c.say.auto.weights, ap length c.as_mut_slice.ensures.value)) in
-    let here : (o : ℕ) → o < length ws → number (numbers_at c.put_weights.new.self.weights.items o) at ≡ get_or ws o 0 = subst (λ (xs : List ℕ). (o : ℕ) → o < length xs → number (numbers_at c.put_weights.new.self.weights.items o) at ≡ get_or xs o 0) whole c.put_weights.ensures.here in
+    let count : length ws ≡ names_in t = c.in_ok-estimate.ensures.room.weights in
+    let here : (o : ℕ) → o < length ws → number (numbers_at c.put_weights.new.self.weights.items o) at ≡ get_or ws o 0 = subst (λ (xs : List ℕ). (o : ℕ) → o < length xs → number (numbers_at c.put_weights.new.self.weights.items o) at ≡ get_or xs o 0) c.weights.ensures c.put_weights.ensures.here in
     let all = settled-at cut t old k c.put_weights.new.self at n estimate ws c.put.new.self is c.requires.piece put said-there e.still count c.put_weights.ensures.can here c.put_weights.ensures.others c.put_weights.ensures.same in
     all.right
 
@@ -131,20 +124,18 @@ returns-clause-others g c =
     let n = c.cut_off-len.result in
     let cut = shown c.args.tables.now in
     let t = term_of c.args.t.now in
-    let ws = c.say.new.weights in
+    let ws = c.say.new.room.weights.items in
     let e = c.cut_off-len.ensures in
     let estimate = c.in_ok-estimate.estimate in
     let is = is-cut-off cut t old k at n c.requires.say c.requires.shaped c.requires.piece e.trimmed e.count e.some e.length e.same in
     let f : SFits w128 estimate = search rules in
     let l : SFits w64 k.first = search rules in
     let put : c.put.new.self ≡ set k.estimates at estimate = c.put.ensures ∙ ap (λ (v : ℤ). set k.estimates at v) (to_z-of_z w128 estimate f) in
-    let said : IsSaid cut t (to_z w64 (of_z w64 k.first)) c.offset-from.result n estimate (λ o. get_or ws o 0) = c.in_ok-estimate.ensures in
+    let said : IsSaid cut t (to_z w64 (of_z w64 k.first)) c.offset-from.result n estimate (λ o. get_or ws o 0) = c.in_ok-estimate.ensures.said in
     let said-there : IsSaid cut t k.first (offset_of k.cells at) n estimate (λ o. get_or ws o 0) =
     subst (λ (z : ℤ). IsSaid cut t z (offset_of k.cells at) n estimate (λ o. get_or ws o 0)) (to_z-of_z w64 k.first l) (subst (λ from. IsSaid cut t (to_z w64 (of_z w64 k.first)) from n estimate (λ o. get_or ws o 0)) c.offset-from.ensures said) in
-    let readers : length c.as_slice-readers.result.now ≡ names_in t = ap length c.as_slice-readers.ensures.value ∙ is.shaped.readers.count in
-    let count : length ws ≡ names_in t = omega (arith, c.say.auto.weights, ap length c.as_mut_slice.ensures.value, c.in_ok-weights.ensures.len, readers) in
-    let whole : c.as_slice.result.now ≡ ws = c.as_slice.ensures ∙ refilled _ _ _ _ refl (omega (arith, c.say.auto.weights, ap length c.as_mut_slice.ensures.value)) in
-    let here : (o : ℕ) → o < length ws → number (numbers_at c.put_weights.new.self.weights.items o) at ≡ get_or ws o 0 = subst (λ (xs : List ℕ). (o : ℕ) → o < length xs → number (numbers_at c.put_weights.new.self.weights.items o) at ≡ get_or xs o 0) whole c.put_weights.ensures.here in
+    let count : length ws ≡ names_in t = c.in_ok-estimate.ensures.room.weights in
+    let here : (o : ℕ) → o < length ws → number (numbers_at c.put_weights.new.self.weights.items o) at ≡ get_or ws o 0 = subst (λ (xs : List ℕ). (o : ℕ) → o < length xs → number (numbers_at c.put_weights.new.self.weights.items o) at ≡ get_or xs o 0) c.weights.ensures c.put_weights.ensures.here in
     let all = settled-at cut t old k c.put_weights.new.self at n estimate ws c.put.new.self is c.requires.piece put said-there e.still count c.put_weights.ensures.can here c.put_weights.ensures.others c.put_weights.ensures.same in
     all.others
 
@@ -156,19 +147,17 @@ returns-clause-same g c =
     let n = c.cut_off-len.result in
     let cut = shown c.args.tables.now in
     let t = term_of c.args.t.now in
-    let ws = c.say.new.weights in
+    let ws = c.say.new.room.weights.items in
     let e = c.cut_off-len.ensures in
     let estimate = c.in_ok-estimate.estimate in
     let is = is-cut-off cut t old k at n c.requires.say c.requires.shaped c.requires.piece e.trimmed e.count e.some e.length e.same in
     let f : SFits w128 estimate = search rules in
     let l : SFits w64 k.first = search rules in
     let put : c.put.new.self ≡ set k.estimates at estimate = c.put.ensures ∙ ap (λ (v : ℤ). set k.estimates at v) (to_z-of_z w128 estimate f) in
-    let said : IsSaid cut t (to_z w64 (of_z w64 k.first)) c.offset-from.result n estimate (λ o. get_or ws o 0) = c.in_ok-estimate.ensures in
+    let said : IsSaid cut t (to_z w64 (of_z w64 k.first)) c.offset-from.result n estimate (λ o. get_or ws o 0) = c.in_ok-estimate.ensures.said in
     let said-there : IsSaid cut t k.first (offset_of k.cells at) n estimate (λ o. get_or ws o 0) =
     subst (λ (z : ℤ). IsSaid cut t z (offset_of k.cells at) n estimate (λ o. get_or ws o 0)) (to_z-of_z w64 k.first l) (subst (λ from. IsSaid cut t (to_z w64 (of_z w64 k.first)) from n estimate (λ o. get_or ws o 0)) c.offset-from.ensures said) in
-    let readers : length c.as_slice-readers.result.now ≡ names_in t = ap length c.as_slice-readers.ensures.value ∙ is.shaped.readers.count in
-    let count : length ws ≡ names_in t = omega (arith, c.say.auto.weights, ap length c.as_mut_slice.ensures.value, c.in_ok-weights.ensures.len, readers) in
-    let whole : c.as_slice.result.now ≡ ws = c.as_slice.ensures ∙ refilled _ _ _ _ refl (omega (arith, c.say.auto.weights, ap length c.as_mut_slice.ensures.value)) in
-    let here : (o : ℕ) → o < length ws → number (numbers_at c.put_weights.new.self.weights.items o) at ≡ get_or ws o 0 = subst (λ (xs : List ℕ). (o : ℕ) → o < length xs → number (numbers_at c.put_weights.new.self.weights.items o) at ≡ get_or xs o 0) whole c.put_weights.ensures.here in
+    let count : length ws ≡ names_in t = c.in_ok-estimate.ensures.room.weights in
+    let here : (o : ℕ) → o < length ws → number (numbers_at c.put_weights.new.self.weights.items o) at ≡ get_or ws o 0 = subst (λ (xs : List ℕ). (o : ℕ) → o < length xs → number (numbers_at c.put_weights.new.self.weights.items o) at ≡ get_or xs o 0) c.weights.ensures c.put_weights.ensures.here in
     let all = settled-at cut t old k c.put_weights.new.self at n estimate ws c.put.new.self is c.requires.piece put said-there e.still count c.put_weights.ensures.can here c.put_weights.ensures.others c.put_weights.ensures.same in
     all.same

@@ -6,14 +6,14 @@ use Rattle.semantics.specs.Term.{Term, constant, bare, plus, minus, times, shift
 use Rattle.semantics.specs.Measures.{rank_of}
 use Rattle.bounds.specs.Form.{lift}
 use Rattle.bounds.specs.Shape.{constant_shape, sum_shape, product_shape, shape, estimate_by, left_of, right_of, Shape}
-use Rattle.bounds.specs.Small.{AreSmallParts, IsSmallShape}
+use Rattle.bounds.specs.Small.{IsSmallShape}
 use Rattle.bounds.proofs.ShapeLaws.{rank-shape}
 use Rattle.error_prop.specs.declared.points.Point.{Point}
 use Rattle.error_prop.specs.Locals.{CanForm}
-use Rattle.error_prop.specs.Points.{shape_of, IsFormedAt, IsPoint, ProductFits, SumFits}
-use Rattle.error_prop.specs.Sizes.{shape_at, weights_of_sum, ProductNeeds, SumNeeds}
-use Rattle.error_prop.proofs.Arms.{no_weights, product_shapes, sum_needs, sum_weights_of, times_needs, AreSized}
-use Rattle.error_prop.proofs.SizeLaws.{can_add, can_multiply, product_size, sum_norm, sum_size}
+use Rattle.error_prop.specs.Points.{shape_of, IsFormedAt, IsPoint, ProductFits}
+use Rattle.error_prop.specs.Sizes.{shape_at, weights_of_sum, ProductNeeds}
+use Rattle.error_prop.proofs.Arms.{no_weights, product_shapes, sum_weights_of, times_needs, AreSized}
+use Rattle.error_prop.proofs.SizeLaws.{can_multiply, product_size, sum_norm, sum_size}
 
 -- ---- what was worked out of the parts
 
@@ -44,33 +44,6 @@ sizes_of u v gs xs ys a b i f = record {
 }
 
 -- ---- sums and differences
-
--- what a sum's code needs
-pub record SumAsks (us vs : List ℕ) (a b : Point) : Type 0 where
-  pub needs : SumNeeds us vs a.size b.size
-  pub fits : SumFits a b
-
-sum_fits : (a b : Point) (s r : Shape) (x y : ℤ) → IsPoint a s x → IsPoint b r y → AreSmallParts s r (sum_shape s r) → SumFits a b
-sum_fits a b s r x y h g k =
-    let el : lift a.size.rank b.size.rank ≡ lift s.rank r.rank = rw (h.size.rank, g.size.rank) refl in
-    let er : lift b.size.rank a.size.rank ≡ lift r.rank s.rank = rw (h.size.rank, g.size.rank) refl in
-    record {
-      sizes = can_add a.size b.size s r h.size g.size k;
-      norm = rw (el, er) (sum_norm _ _ _ _ _ _ _ h.small g.small k.2.norm);
-    }
-
-sum_asks : (u v : Term) (gs : List Seg) (xs ys : List ℕ) (a b : Point) (i : ℤ) → AreFormedOf u v gs xs ys a b i
-    → AreSmallParts (shape u (left_of u gs)) (shape v (right_of u gs)) (sum_shape (shape u (left_of u gs)) (shape v (right_of u gs))) → SumAsks xs ys a b
-sum_asks u v gs xs ys a b i f s = record {
-  needs = sum_needs u v gs xs ys a.size b.size (sizes_of u v gs xs ys a b i f) s;
-  fits = sum_fits a b _ _ _ _ f.left.point f.right.point s;
-}
-
-pub plus_asks : (u v : Term) (gs us vs : List Seg) (r : ℕ) (xs ys : List ℕ) (a b : Point) (i : ℤ) → CanForm (plus u v) gs r i 1 → AreFormedAt u v gs us vs xs ys a b i → SumAsks xs ys a b
-plus_asks u v gs us vs r xs ys a b i h f = sum_asks u v gs xs ys a b i (formed_of u v gs us vs xs ys a b i f) h.small.2
-
-pub minus_asks : (u v : Term) (gs us vs : List Seg) (r : ℕ) (xs ys : List ℕ) (a b : Point) (i : ℤ) → CanForm (minus u v) gs r i 1 → AreFormedAt u v gs us vs xs ys a b i → SumAsks xs ys a b
-minus_asks u v gs us vs r xs ys a b i h f = sum_asks u v gs xs ys a b i (formed_of u v gs us vs xs ys a b i f) h.small.2
 
 sum_point : (op : ℤ → ℤ → ℤ) (m a b : Point) (s r : Shape) (x y : ℤ) (j k : ℕ) → IsPoint a s x → IsPoint b r y → s.rank ≡ j → r.rank ≡ k
     → IsPoint m (sum_shape (shape_of a) (shape_of b)) (op (pos (lift a.size.rank b.size.rank) *ℤ a.value) (pos (lift b.size.rank a.size.rank) *ℤ b.value))

@@ -2,11 +2,10 @@
 use Rattle.std.proofs.Common.{◌≡◌, ℕ, ◌+◌, ◌*◌, ◌≤◌, List, [], refl, sym, ap, subst, ◌∙◌, arith}
 use Rattle.std.proofs.Math.Nat.{mul-le-mul}
 use Rattle.segment.specs.declared.segments.Seg.{Seg}
-use Rattle.bounds.specs.Form.{lift}
 use Rattle.bounds.specs.Shape.{Shape, sum_shape, product_shape}
-use Rattle.bounds.specs.Small.{AreSmallParts, IsSmallShape, IsSmallProduct}
+use Rattle.bounds.specs.Small.{IsSmallShape, IsSmallProduct}
 use Rattle.error_prop.specs.declared.sizes.Size.{Size}
-use Rattle.error_prop.specs.Sizes.{shape_at, weights_of_sum, CanAdd, CanMultiply, IsSize}
+use Rattle.error_prop.specs.Sizes.{shape_at, weights_of_sum, CanMultiply, IsSize}
 
 -- a shape with another norm
 abbrev pub with_norm : Shape → ℕ → Shape
@@ -16,17 +15,6 @@ as_shape : (z : Size) (n : ℕ) (s : Shape) → IsSize z s → shape_at z n s.we
 as_shape z n s k = λ i. record { rank = k.rank i; most = k.most i; most_estimate = k.most_estimate i; norm = n; weights = s.weights }
 
 -- ---- sums
-
-pub can_add : (a b : Size) (s r : Shape) → IsSize a s → IsSize b r → AreSmallParts s r (sum_shape s r) → CanAdd a b
-can_add a b s r h g k =
-    let el : lift a.rank b.rank ≡ lift s.rank r.rank = rw (h.rank, g.rank) refl in
-    let er : lift b.rank a.rank ≡ lift r.rank s.rank = rw (h.rank, g.rank) refl in
-    record {
-      rank_u = omega (arith, h.rank, k.0.rank);
-      rank_v = omega (arith, g.rank, k.1.rank);
-      most = omega (arith, h.most, g.most, k.2.most);
-      most_estimate = rw (el, er, h.most_estimate, g.most_estimate) k.2.most_estimate;
-    }
 
 pub sum_weights : (a b : Size) (s r : Shape) → IsSize a s → IsSize b r → weights_of_sum a b s.weights r.weights ≡ (sum_shape s r).weights
 sum_weights a b s r h g = rw (h.rank, g.rank) refl

@@ -1,5 +1,5 @@
 -- The numbers of a local form that bound what it says of a series.
-use Rattle.std.specs.Prelude.{◌≡◌, ℕ, ◌+◌, ◌*◌, ◌^◌, ◌≤◌, List, ◌++◌, length}
+use Rattle.std.specs.Prelude.{◌≡◌, ℕ, ◌+◌, ◌*◌, ◌^◌, ◌≤◌, List, ◌++◌, length, All}
 use Rattle.segment.specs.declared.segments.Seg.{Seg}
 use Rattle.bounds.specs.Form.{lift}
 use Rattle.bounds.specs.Shape.{Shape, times_each}
@@ -45,3 +45,7 @@ pub record ProductNeeds (us vs : List ℕ) (gs : List Seg) (u v : Size) : Type 0
   pub rank_u : u.rank ≤ 2
   pub rank_v : v.rank ≤ 2
   pub small : IsSmallProduct (shape_at u 0 us) (shape_at v 0 vs) gs
+
+-- no segment misses anything
+abbrev pub MissNothing : List Seg → Type 0
+MissNothing gs = All (λ g. g.l ≡ 0) gs

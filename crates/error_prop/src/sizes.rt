@@ -1,11 +1,11 @@
 //! The numbers of a local form that bound what it says of a series, and the weights of its parts.
 
-ghost use Rattle.std.specs.Prelude.{◌≡◌, ◌≤◌, ◌^◌, ◌*◌, ◌+◌, ◌++◌, [], length, max, pos, ℕ};
+ghost use Rattle.std.specs.Prelude.{◌≡◌, ◌≤◌, ◌^◌, ◌*◌, ◌+◌, ◌++◌, [], length, pos, ◌↔◌, IsTrue};
 ghost use Rattle.segment.specs.Measure.{unit};
 ghost use Rattle.bounds.specs.Form.{lift as lift_of};
 ghost use Rattle.bounds.specs.Shape.{base_shape, constant_shape, product_shape, sum_shape, times_each};
 ghost use Rattle.bounds.specs.Small.{AreSmall, IsSmallProduct};
-ghost use Rattle.error_prop.specs.Sizes.{shape_at, weights_of_sum, CanAdd, CanMultiply, IsSize, ProductNeeds, SumNeeds};
+ghost use Rattle.error_prop.specs.Sizes.{shape_at, weights_of_sum, CanAdd, CanMultiply, IsSize, MissNothing, ProductNeeds, SumNeeds};
 
 use crate::weights::{cost_of_two, weigh};
 use segment::Seg;
@@ -98,7 +98,15 @@ pub(crate) fn multiplied(u: &Size, v: &Size) -> Size
     }
 }
 
-/// The factors of the weights of a product's parts, by the cheaper form; on a tie form A.
+/// Whether no segment misses anything.
+fn miss_nothing(segs: &[Seg]) -> bool
+    ensures { IsTrue result ↔ MissNothing segs.now }
+{
+    segs.iter().all(|g| g.l == 0)
+}
+
+/// The factors of the weights of a product's parts, by the cheaper form; on a tie form A. Over segments that miss
+/// nothing both forms cost nothing.
 fn factors(u: &Size, us: &[u128], v: &Size, vs: &[u128], segs: &[Seg]) -> (u128, u128)
     requires length { length us.now + length vs.now ≤ length segs.now }
     requires rank_u { u.now.rank ≤ 2 }
@@ -109,6 +117,9 @@ fn factors(u: &Size, us: &[u128], v: &Size, vs: &[u128], segs: &[Seg]) -> (u128,
     ensures small { AreSmall (times_each result.0 us.now ++ times_each result.1 vs.now) }
 {
     let raised_u = u.x * raise(u.rank);
+    if miss_nothing(segs) {
+        return (v.f, raised_u);
+    }
     let raised_v = v.x * raise(v.rank);
     let a = cost_of_two(us, v.f, vs, raised_u, segs);
     let b = cost_of_two(us, raised_v, vs, u.f, segs);

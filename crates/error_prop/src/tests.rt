@@ -151,6 +151,22 @@ fn line_form(alloc: Global, x: Name) -> Result<Local, Fail> {
     Ok(form)
 }
 
+/// The estimate of a product at the third position, and the weights of its names.
+fn product_at(alloc: Global, x: Name, y: Name) -> Result<(i128, u128, u128), Fail> {
+    let product = product_of(alloc, x, y)?;
+    let mut weights = [0u128; 2];
+    let estimate = estimate_at(&mut weights, &product, 2, &[TURNS, STEPS]);
+    Ok((estimate, weights[0], weights[1]))
+}
+
+/// The estimate of a stored series at the third position, and its weight.
+fn line_at(x: Name) -> (i128, u128) {
+    let series = Series::Base(x);
+    let mut weights = [0u128; 1];
+    let estimate = estimate_at(&mut weights, &series, 2, &[LINE]);
+    (estimate, weights[0])
+}
+
 #[test]
 fn forms(rt: HostRuntime) -> Result<(), Fail> {
     let x = Name::of(b"x").ok_or("x")?;
@@ -174,5 +190,9 @@ fn forms(rt: HostRuntime) -> Result<(), Fail> {
     );
     assert_eq!(rt; (product.x, product.f), (30, 2684354560));
     assert_eq!(rt; product.weights.as_slice(), [32768, 163840].as_slice());
+
+    // the same at one position
+    assert_eq!(rt; line_at(x), (49152, 1));
+    assert_eq!(rt; product_at(rt.alloc(), x, y)?, (2684354560, 32768, 163840));
     Ok(())
 }

@@ -4,6 +4,7 @@ ghost use Rattle.std.specs.Prelude.{◌≡◌, ◌≤◌, ◌+◌, ◌<◌, ◌^
 
 use crate::map_files::copy_part;
 use crate::opening::found;
+use crate::read_ahead::{AHEAD, Piece, ReadAhead};
 use crate::shelves::Failed;
 use std::alloc::Global;
 use std::fs::{self, File, OpenFile};
@@ -13,8 +14,22 @@ use std::rt::Files;
 // So many bytes are read with the whole file in the time that one part takes.
 const PART_COST: u64 = 2500;
 
-/// An open file. After as many parts as a read of the whole costs it is read whole, once, and the rest of its parts are
-/// copied from memory.
+// After so many parts the bytes behind the next ones are read with them.
+const FEW: u64 = 16;
+
+/// How the parts of a file are read.
+#[derive(Drop)]
+enum Reads {
+    /// Each by itself.
+    Alone,
+    /// With the bytes behind it, which are kept for a part that they begin with.
+    Ahead(ReadAhead),
+    /// From the whole file, which was read.
+    Whole(Vec<u8>),
+}
+
+/// An open file. After a few parts the bytes behind them are read with them, and after as many as a read of the whole
+/// costs it is read whole, once.
 #[derive(Drop)]
 pub(crate) struct KeptFile {
     /// Not kept where there was no memory for it: then the next call opens the file again.
@@ -22,10 +37,9 @@ pub(crate) struct KeptFile {
     file: File,
     /// Its length when it was opened.
     len: u64,
-    /// How many parts were read.
+    /// How many parts were not in memory.
     parts: u64,
-    /// All of its bytes, once they were read.
-    whole: Option<Vec<u8>>,
+    reads: Reads,
 }
 
 impl KeptFile {
@@ -44,7 +58,7 @@ impl KeptFile {
                 file,
                 len: data.len(),
                 parts: 0,
-                whole: None,
+                reads: Reads::Alone,
             })),
             _ => Err(Failed),
         }
@@ -73,16 +87,82 @@ impl KeptFile {
         if at > self.len || self.len - at < buf.len() as u64 {
             return Ok(false);
         }
-        if self.parts == self.len / PART_COST {
-            self.whole = read_whole(alloc, &self.file, self.len)?;
-        }
-        self.parts = self.parts.saturating_add(1);
-        match &self.whole {
-            Some(bytes) => part_of(bytes, at, buf)?,
-            None => read_part(&self.file, at, buf)?,
+        if !self.copy(at, buf) {
+            self.choose(alloc)?;
+            self.read(at, buf)?;
         }
         Ok(true)
     }
+
+    // Fills `buf` with the bytes from `at` on where they are in memory, or says false.
+    fn copy(&self, at: u64, buf: &mut [u8]) -> bool
+        ensures { length buf.new ≡ length buf.old }
+    {
+        match &self.reads {
+            Reads::Alone => false,
+            Reads::Ahead(ahead) => ahead.copy(at, buf),
+            Reads::Whole(bytes) => copy_part(bytes, at, buf),
+        }
+    }
+
+    // Counts a part that is not in memory, and chooses how parts are read from it on. Where there is no memory for the
+    // bytes to be kept, they are read as before.
+    fn choose(&mut self, alloc: Global) -> Result<(), Failed>
+        ensures { self.new.len ≡ self.old.len }
+    {
+        if self.parts == FEW
+            && let Ok(ahead) = ReadAhead::new(alloc)
+        {
+            self.reads = Reads::Ahead(ahead);
+        }
+        if self.parts == self.len / PART_COST
+            && let Some(bytes) = read_whole(alloc, &self.file, self.len)?
+        {
+            self.reads = Reads::Whole(bytes);
+        }
+        self.parts = self.parts.saturating_add(1);
+        Ok(())
+    }
+
+    // Fills `buf` with the bytes from `at` on.
+    fn read(&mut self, at: u64, buf: &mut [u8]) -> Result<(), Failed>
+        requires { at + length buf.old ≤ self.old.len }
+        ensures long { length buf.new ≡ length buf.old }
+        ensures len { self.new.len ≡ self.old.len }
+    {
+        let left = self.len - at;
+        match &mut self.reads {
+            Reads::Whole(bytes) => part_of(bytes, at, buf),
+            Reads::Ahead(ahead) if buf.len() <= AHEAD && left >= 2 * AHEAD as u64 => {
+                read_more(&self.file, at, buf, ahead)
+            }
+            _ => read_part(&self.file, at, buf),
+        }
+    }
+}
+
+// Fills `buf` with the bytes of a file from `at` on, and keeps those behind them.
+fn read_more<F: FileExt>(
+    file: &F,
+    at: u64,
+    buf: &mut [u8],
+    ahead: &mut ReadAhead,
+) -> Result<(), Failed>
+    requires room { at + 112 < 2 ^ 64 }
+    requires short { length buf.old ≤ 56 }
+    ensures { length buf.new ≡ length buf.old }
+{
+    let len = buf.len();
+    let mut both = [0; 2 * AHEAD];
+    read_part(file, at, &mut both[..len + AHEAD])?;
+    buf.copy_from_slice(&both[..len]);
+    let mut bytes = [0; AHEAD];
+    bytes.copy_from_slice(&both[len..len + AHEAD]);
+    ahead.keep(Piece {
+        at: at + len as u64,
+        bytes,
+    });
+    Ok(())
 }
 
 // All bytes of a file, or `None` where there is no memory for them.

@@ -14,6 +14,7 @@ mod memory_out;
 mod memory_shelf;
 mod opening;
 mod output;
+mod read_ahead;
 mod shelves;
 mod standard_output;
 mod steady_out;

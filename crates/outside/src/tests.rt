@@ -128,6 +128,25 @@ fn whole_files_of_a_folder(rt: HostRuntime) -> Result<(), Fail> {
 }
 
 #[test]
+fn parts_read_ahead(rt: HostRuntime) -> Result<(), Fail> {
+    let alloc = rt.alloc();
+    let name = "outside_ahead";
+    let long = pattern(alloc, 100000)?;
+    fs::write(&rt, name, long.as_slice())?;
+    let mut shelf = DirShelf::new(alloc, &rt);
+    let mut buf = [0; 4];
+    // So many that those behind others are in memory first, and then the whole file is.
+    for i in 0..60 {
+        for at in [1000 * i, 1000 * i + 4, 99996 - i] {
+            assert!(rt; shelf.part(name, at as u64, &mut buf) == Ok(true));
+            assert!(rt; long.get(at..at + 4) == Some(buf.as_slice()));
+        }
+    }
+    fs::remove_file(&rt, name)?;
+    Ok(())
+}
+
+#[test]
 fn parts_of_a_folder(rt: HostRuntime) -> Result<(), Fail> {
     let alloc = rt.alloc();
     let name = "outside_parts";
